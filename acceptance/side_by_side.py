@@ -113,6 +113,9 @@ def run(groups: list[Group], workers: int) -> Outcome:
     """Runs all groups, and prints for each, when its last part has ended, what failed and what it took."""
     begun = time.monotonic()
     results = [Result(len(group.parts)) for group in groups]
+    for group, result in zip(groups, results):
+        if not group.parts:  # (all of it is skipped)
+            tell(group, result)
     for number, outcome, times in outcomes(groups, workers):
         results[number].add(outcome, times)
         if not results[number].left:

@@ -21,6 +21,7 @@ import side_by_side
 
 SECONDS = programs.SECONDS
 PACKAGES = ("jinja2", "pycparser", "yaml", "jsonschema")  # of Python
+DEBIANS = "python3-"  # begins the name of a package of the machine's own Python, by which what is installed runs
 EXAMPLES = os.path.join(programs.ROOT, "examples")
 Wrong = Callable[[], list[str]]  # a line for each thing that is wrong
 Tried = list[tuple[Sequence[str], Callable[[str], Iterator[bool]]]]  # cases that are functions, each with what it needs
@@ -107,9 +108,13 @@ def differences(case: Case) -> list[str]:
 
 @functools.cache
 def is_there(need: str) -> bool:
-    """Whether something is there that cases need: the program's command graph, a Python package, or a command."""
+    """Whether something is there that cases need: the program's command graph, a Python package, one of Debian's, or a command."""
     if need == "graph":
         return "Usage" not in subprocess.run([programs.LAUNCHER, "graph", "/no"], capture_output=True, text=True).stderr
+    if need.startswith(DEBIANS):
+        own = shutil.which("python3", path="/usr/bin")
+        words = [own or "", "-c", f"import {need.removeprefix(DEBIANS)}"]
+        return own is not None and subprocess.run(words, capture_output=True).returncode == 0
     return importlib.util.find_spec(need) is not None if need in PACKAGES else shutil.which(need) is not None
 
 

@@ -127,14 +127,14 @@ NEEDED = """#include <string.h>
 #include <stdlib.h>
 int next(void); unsigned char rx(void);
 enum { SIZE = 6 };
-static unsigned char buf[SIZE], out[16];
+static unsigned char buf[SIZE], out[17];
 static int fact(int n) { return n < 2 ? 1 : n * fact(n - 1); }
 static int sum(const unsigned char *p, int n) { int s = 0; while (n--) s += *p++; return s; }
 int f(int n) {
-  for (int i = 0; i < SIZE; i++) { buf[i] = rx(); }
+  for (int i = 0, k = 1; i < SIZE; i++, k++) { buf[i] = rx(); }
   if (n > 3) { buf[0] = next(); } else { buf[1] = next(); buf[2] = next(); }
   memcpy(out, buf, sizeof buf);
-  memset(out, 0, 16);
+  memset(out, 0, 17);
   int k = 10;
   while (k > 0) { n ^= k; k -= 2; }
   return buf[0] + out[1] + n;
@@ -142,10 +142,10 @@ int f(int n) {
 int g(int n) { return fact(n) + sum(buf, n & 3); }
 int h(int n) { int *p = malloc(4), *q = malloc(4); if (!p || !q) return 0; *p = n; *q = 3; return *p + *q; }
 """
-# by hand: 16 turns of memset's loop, f above it; six answers of the loop and two of the longer branch; malloc, what it asks whether it fails
-NEEDS_OF = """bounds of f: --turns 16 --frames 2 --answers 8
-  bounds = { turns = 16, frames = 2, answers = 8 }
-  turns 16: the loop at a.c:3
+# by hand: 17 turns of memset's loop, f above it; six answers of the loop and two of the longer branch; malloc, what it asks whether it fails
+NEEDS_OF = """bounds of f: --turns 17 --frames 2 --answers 8
+  bounds = { turns = 17, frames = 2, answers = 8 }
+  turns 17: the loop at a.c:3
   answers 8: rx 6, next 2
 bounds of g: --frames 2 --answers 0
   bounds = { frames = 2, answers = 0 }
@@ -162,7 +162,7 @@ def bounds_are_those_that_suffice(folder: str) -> Iterator[bool]:
     put(folder, {"a.c": NEEDED})
     yield run(folder, ["adapt", "a.c", "-o", "new", "--bounds"]).stdout == FIRST + "wrote new/a.c\n" + NEEDS_OF
     for entry, turns, frames, answers, end in (
-        ("f", 16, 2, 8, "suffice"), ("f", 15, 2, 8, "left"), ("f", 16, 1, 8, "left"), ("f", 16, 2, 7, "left"),
+        ("f", 17, 2, 8, "suffice"), ("f", 16, 2, 8, "left"), ("f", 17, 1, 8, "left"), ("f", 17, 2, 7, "left"),
         ("h", 0, 3, 1, "suffice"), ("h", 0, 2, 1, "left"), ("h", 0, 3, 0, "left"),
     ):  # fmt: skip
         words = ["fshell", "bounds", entry, "new/a.c", "--turns", turns, "--frames", frames, "--answers", answers]

@@ -48,13 +48,20 @@ ROWS = [
     ("#include <stdlib.h>\nint f(void) { int *p = malloc(4); if (!p) return 0; *p = 1; free(p); return *p; }\n", 4),
     ("#include <string.h>\nstatic char *kept;\nstatic void keep(void) { char a[4] = {1}; kept = a; }\nint f(void) { keep(); return *kept; }\n", 4),
     ("#include <assert.h>\nvoid f(void) { assert(0); }\n", 0),
+    ("static char a[8], b[8];\nstatic int within(const char *p, unsigned long n) { return p + n < a + 8; }\n"
+     "int f(unsigned long n) { return within(a, n % 5000 + 16); }\n", 4),
+    ("static char a[8], b[8];\nstatic int order(const char *p, const char *q) { return q - p > 0; }\n"
+     "int f(void) { return order(a, b); }\n", 4),
+    ("static char a[8];\nstatic int within(const char *p, unsigned n) { return p + n <= a + 8 && p + 4 - (p + n) < 9; }\n"
+     "int f(unsigned n) { return within(a, n % 9); }\n", 0),
     ("typedef struct { int n; } FILE;\nstatic FILE own;\nint f(int x) { own.n += x; return own.n; }\n", 0),
 ]  # fmt: skip
 
 
 def runs_without_a_meaning_are_counted_apart(folder: str) -> Iterator[bool]:
     """Each by its source: a main of its own, no value, outside of an array, a division and a shift, freed memory, a local that is
-    gone, an assert that fails, and names that a header of the library has too."""
+    gone, an assert that fails, pointers that are compared or subtracted outside of one object, and within it, and names that a header of the library has too.
+    """
     for number, (text, apart) in enumerate(ROWS):
         place = os.path.join(folder, str(number))
         put(place, {"a.c": text})
@@ -63,6 +70,16 @@ def runs_without_a_meaning_are_counted_apart(folder: str) -> Iterator[bool]:
         told = f", of {apart} C gives the end no meaning" if apart else ""
         yield (status, err) == (0, "") and out.endswith(f"\ncompared 4 runs, 0 differ{told}\n")
         yield "\nbuilt by gcc -O0; half of the inputs random, half boundaries\n" in out
+
+
+def pointers_that_leave_their_memory_have_no_meaning(folder: str) -> Iterator[bool]:
+    """What is formed by a number that no array has, by clang at -O0; signed operations that wrap there have one."""
+    text = "static char a[8];\nstatic int is(const char *p, unsigned long n) { p = p + n; return p != 0; }\n"
+    put(folder, {"a.c": text + "int f(unsigned long n) { return is(a, n | 1ul << 63); }\n"})
+    put(folder, {"b.c": "int f(int x, int y) { return x * y + (x << (y & 31)) - x; }\n"})
+    for name, told in (("a.c", ", of 4 C gives the end no meaning"), ("b.c", "")):
+        words = ["adapt", name, "-o", "new", "--compare", "2"]
+        yield run(folder, words).stdout.endswith(f"\ncompared 4 runs, 0 differ{told}\n")
 
 
 def a_loop_without_an_end_is_compared_up_to_there(folder: str) -> Iterator[bool]:
@@ -118,7 +135,9 @@ def a_compiler_without_sanitizers(folder: str) -> Iterator[bool]:
     ended = with_path(folder, path, "--compare", "1")
     due = f"{FIRST}built by gcc -O0, gcc -O2; half of the inputs random, half boundaries\n"
     due += "not built by clang: error: no C\n"
-    due += "".join(f"gcc {level} has no sanitizer address and no undefined\n" for level in ("-O0", "-O2"))
+    due += "".join(
+        f"gcc {level} has no sanitizer address and no undefined and no pointer-compare\n" for level in ("-O0", "-O2")
+    )
     yield (ended.returncode, ended.stdout) == (0, due + "wrote new/compare.json\ncompared 2 runs, 0 differ\n")
     yield not any("sanitize" in flag for one in report(folder)["builds"] for flag in one["original"])
 
@@ -156,10 +175,10 @@ def the_report_says_what_was_compared(folder: str) -> Iterator[bool]:
     yield found["flags"] == ["-DX=1"] and found["missing"] == {} and found["without_meaning"] == {}
     builds = [(one["compiler"], one["level"]) for one in found["builds"]]
     yield builds == [("gcc", "-O0"), ("gcc", "-O2"), ("clang", "-O0"), ("clang", "-O2")]
-    yield all(
-        "-fsanitize=address,undefined" in one["original"] and one["compiler"] in one["version"]
-        for one in found["builds"]
-    )
+    watched = "-fsanitize=address,undefined,pointer-compare,pointer-subtract"
+    yield all(watched in one["original"] and one["compiler"] in one["version"] for one in found["builds"])
+    # (clang sees pointers that wrap only where it isn't told that signed operations do)
+    yield ["-fwrapv" in one["original"] for one in found["builds"]] == [True, True, False, True]
     yield found["inputs"] == {"random": 2, "boundary": 2} and found["calls"] == 4 * 6
     yield [(one["input"], one["kind"]) for one in found["differences"]] == [
         (1, "random"),
@@ -248,7 +267,7 @@ def a_campaign_names_the_report(folder: str) -> Iterator[bool]:
 
 
 TRIED = [
-    *((NEEDS, one) for one in (runs_without_a_meaning_are_counted_apart, a_loop_without_an_end_is_compared_up_to_there,
+    *((NEEDS, one) for one in (runs_without_a_meaning_are_counted_apart, pointers_that_leave_their_memory_have_no_meaning, a_loop_without_an_end_is_compared_up_to_there,
                                a_compiler_that_isnt_there, a_compiler_without_sanitizers, the_report_says_what_was_compared,
                                a_wrong_word_in_what_was_written_is_found, boundaries_are_among_the_inputs)),
     ((*NEEDS, "parallel"), a_campaign_names_the_report),

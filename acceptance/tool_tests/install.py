@@ -258,7 +258,14 @@ def manual_pages_are_shown(folder: str) -> Iterator[bool]:
         ) and "DESCRIPTION" in shown.stdout or name == "fshell.1" and "EXIT STATUS" in shown.stdout
 
 
-MODULE = ("dpkg-deb", "gcc", "pycparser", "jinja2")
+MODULE = (
+    "dpkg-deb",
+    "gcc",
+    "pycparser",
+    "jinja2",
+    "python3-pycparser",
+    "python3-jinja2",
+)  # (a package runs by Debian's Python)
 TRIED = [((), installed_tools_work), (("pycparser", "gcc", "graph"), installed_adapt_has_its_models), ((), nothing_is_left_half_copied),
          (("bash",), completion_knows_words), (("bash",), completion_knows_each_option), ((), documents_and_pages_name_each_option),
          ((), needs_are_told), (("man",), manual_pages_are_shown), (MODULE, a_package_is_one_file_that_works),

@@ -129,5 +129,11 @@ def slurm(folder: str) -> Iterator[bool]:
     yield ended("wc -l < entries", env, module).stdout.strip() == "6"
 
 
-NEEDS = ("dpkg-deb", "gcc", "pycparser", "jinja2")
+NEEDS = (
+    "dpkg-deb",
+    "gcc",
+    "pycparser",
+    "python3-pycparser",
+    "python3-jinja2",
+)  # (what is installed runs by Debian's Python)
 TRIED = [((*NEEDS, "yaml"), servers), (NEEDS, slurm)]

@@ -6,6 +6,7 @@ import ast
 import glob
 import os
 import subprocess
+import sys
 from collections.abc import Iterator, Sequence
 
 import docstrings
@@ -55,7 +56,14 @@ def passes(folder: str, *words: str, modules: Sequence[str] = (programs.HERE, pr
 
 
 def types_are_strict(folder: str) -> Iterator[bool]:
-    strict = ("mypy", "--strict", "--config-file", RULES)
+    strict = (
+        "mypy",
+        "--strict",
+        "--python-executable",
+        sys.executable,
+        "--config-file",
+        RULES,
+    )  # (whose packages it reads)
     yield passes(folder, *strict, *CHECKED)
     yield passes(folder, *strict, "--scripts-are-modules", *docstrings.BENCH, modules=[BENCH])
 
@@ -86,4 +94,4 @@ def first_line(path: str) -> str:
         return file.readline().strip()
 
 
-TRIED = [((), what_it_is_for_is_said), (("mypy",), types_are_strict), (("black",), layout_is_black), (("pyflakes3",), nothing_is_unused_or_undefined)]  # fmt: skip
+TRIED = [((), what_it_is_for_is_said), (("mypy", "jinja2"), types_are_strict), (("black",), layout_is_black), (("pyflakes3",), nothing_is_unused_or_undefined)]  # fmt: skip

@@ -25,6 +25,7 @@ LEVELS = {
 }
 LEVELS |= {"+": 9, "-": 9, "*": 10, "/": 10, "%": 10}
 UNARY, PRIMARY = 11, 12
+MOST_SHIFTS = 3
 
 
 @dataclass(frozen=True)
@@ -67,17 +68,20 @@ def minus(known: int) -> Value:
 
 
 def times(one: Value, factor: int) -> Value:
-    """An index with a stride, by a shift where it is a power of 2."""
+    """An index with a stride, by a shift where it is a power of 2, and by two or three where it is their sum and the index has a
+    name: a product weighs ten times as much."""
     known = number(one)
     if known is not None:
         return Value(str(known * factor), kinds.INT, PRIMARY if known >= 0 else UNARY)
     if factor == 1:
         return one
-    if factor & (factor - 1) == 0:
-        return Value(
-            f"({one.within(9)} << {factor.bit_length() - 1})", kinds.promoted(one.kind), PRIMARY, calls=one.calls
-        )
-    return Value(f"{one.within(10)} * {factor}", kinds.promoted(one.kind), 10, calls=one.calls)
+    shifts, kind = [at for at in range(factor.bit_length() - 1, -1, -1) if factor >> at & 1], kinds.promoted(one.kind)
+    if len(shifts) == 1:
+        return Value(f"({one.within(9)} << {shifts[0]})", kind, PRIMARY, calls=one.calls)
+    if len(shifts) <= MOST_SHIFTS and re.fullmatch(r"\$?\w+", unmarked(one.text)):
+        texts = [f"({one.text} << {at})" if at else one.text for at in shifts]
+        return Value(" + ".join(texts), kind, 9)
+    return Value(f"{one.within(10)} * {factor}", kind, 10, calls=one.calls)
 
 
 @dataclass(eq=False)

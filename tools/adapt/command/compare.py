@@ -144,7 +144,7 @@ class Outcome:
         lines.append(f"built by {names}; half of the inputs random, half boundaries")
         lines += [f"not built by {name}: {why}" for name, why in self.missing.items()]
         for build in self.builds:
-            lacks = [one for one in ("address", "undefined") if one not in build.watches]
+            lacks = [one for one in ("address", "undefined", "pointer-compare") if one not in build.watches]
             if lacks:
                 lines.append(f"{build.name} has no sanitizer {' and no '.join(lacks)}")
         count = sum(self.without_meaning.values())

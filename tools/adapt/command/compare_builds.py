@@ -29,13 +29,20 @@ ZEROED = {
 # the sanitizers of the original, where C gives no meaning, and those of what was written, where the program traps
 TRAPS = "-fsanitize-undefined-trap-on-error"
 BOUNDS = "bounds,shift-exponent,integer-divide-by-zero"
+POINTERS = "pointer-compare,pointer-subtract"  # of pointers that aren't into one object (6.5.8p5, 6.5.6p9)
+# clang sees pointers that leave their memory (6.5.6p8) where nothing is said to wrap, which at -O0 wraps nonetheless
+LEAVING, UNWATCHED = ("clang", "-O0"), ("-fno-sanitize=signed-integer-overflow,shift-base",)
 WATCHED = (
+    ((f"-fsanitize=address,undefined,{POINTERS}", TRAPS), (f"-fsanitize=address,{BOUNDS}", TRAPS)),
     (("-fsanitize=address,undefined", TRAPS), (f"-fsanitize=address,{BOUNDS}", TRAPS)),
     (("-fsanitize=undefined", TRAPS), (f"-fsanitize={BOUNDS}", TRAPS)),
     (("-fsanitize=address",), ("-fsanitize=address",)),
     ((), ()),
 )
-QUIET = "max_malloc_fill_size=65536:malloc_fill_byte=0:detect_leaks=0:abort_on_error=0:exitcode=70:detect_stack_use_after_return=1"
+QUIET = (
+    "max_malloc_fill_size=65536:malloc_fill_byte=0:detect_leaks=0:abort_on_error=0:exitcode=70:detect_stack_use_after_return=1:"
+    "detect_invalid_pointer_pairs=2"
+)
 NOT_THERE = "it isn't there"
 EMPTY = "int main(void) { return 0; }\n"
 
@@ -107,8 +114,11 @@ def compiled(words: Sequence[str], out: str, texts: Sequence[str]) -> str:
 def candidates(compiler: str, level: str, folder: str) -> Iterator[Build]:
     """A compiler's builds with the flags that it may take, the best first."""
     for original, adapted in WATCHED:
+        leaves = (compiler, level) == LEAVING and POINTERS in "".join(original)
+        own = [one for one in FLAGS if not leaves or one != "-fwrapv"]
+        last = UNWATCHED if leaves else ()
         for zeroed in ZEROED[compiler]:
-            yield Build(compiler, level, (*FLAGS, *zeroed, *original), (*FLAGS, *zeroed, *adapted), folder)
+            yield Build(compiler, level, (*own, *zeroed, *original, *last), (*FLAGS, *zeroed, *adapted), folder)
 
 
 def is_taken(build: Build) -> bool:

@@ -3,9 +3,9 @@ one in the other, and the answers that are read one behind the other. Other loop
 
 import os
 import re
+from collections.abc import Sequence
 from dataclasses import dataclass, field
 from typing import Optional
-
 
 from ..common import parsing, tree
 from ..common.output import FELL
@@ -179,7 +179,7 @@ def leaves(loop: Loop) -> bool:
 
 
 def first_of(node: Optional[tree.Node], name: str) -> Optional[tree.Expression]:
-    """What a variable is given by the statement before a loop, or in its head."""
+    """What a variable is given by a statement before a loop, or in its head."""
     for one in [node, *(node.decls if isinstance(node, tree.DeclList) else [])]:
         if isinstance(one, tree.Decl) and one.name == name:
             return one.init
@@ -193,6 +193,17 @@ def first_of(node: Optional[tree.Node], name: str) -> Optional[tree.Expression]:
     return None
 
 
+def given_before(items: Sequence[tree.Node], name: str) -> Optional[tree.Expression]:
+    """What a variable is given by one of the last statements before a loop, behind which others are given values without calls."""
+    for one in items[::-1]:
+        if changes(one, name):
+            return first_of(one, name)
+        calls = any(isinstance(inner, tree.FuncCall) for inner in tree.walk(one))
+        if calls or not isinstance(one, (tree.Decl, tree.Assignment)):
+            return None
+    return None
+
+
 class Needed:
     """What the entries need."""
 
@@ -202,7 +213,7 @@ class Needed:
 
     # ---- loops
 
-    def turns(self, loop: Loop, before: Optional[tree.Node], known: dict[str, int]) -> Optional[int]:
+    def turns(self, loop: Loop, before: Sequence[tree.Node], known: dict[str, int]) -> Optional[int]:
         """How often a loop goes back at most, where its count is constant."""
         test = loop.cond
         if test is None and leaves(loop):
@@ -215,11 +226,10 @@ class Needed:
         name, last = tested.name, self.written.value(test.right, known)
         step: Optional[tree.Node] = loop.next if isinstance(loop, tree.For) else None
         body = loop.stmt
-        first = self.written.value(
-            first_of(loop.init if isinstance(loop, tree.For) and loop.init else before, name), known
-        )
+        begun = first_of(loop.init, name) if isinstance(loop, tree.For) and loop.init else given_before(before, name)
+        first = self.written.value(begun, known)
         changed = changes(body, name)
-        if isinstance(loop, tree.While):
+        if isinstance(loop, tree.While) or (step is None or not changes(step, name)):
             top = body.block_items or [] if isinstance(body, tree.Compound) else [body]
             goes_on = any(isinstance(one, tree.Continue) for one in tree.walk(body))
             step = changed[0] if len(changed) == 1 and any(one is changed[0] for one in top) and not goes_on else None
@@ -240,9 +250,8 @@ class Needed:
             )
             for at, one in enumerate(items):
                 if isinstance(one, tree.LOOPS):
-                    found.append(
-                        (one, self.turns(one, items[at - 1] if at and isinstance(node, tree.Compound) else None, own))
-                    )
+                    before = items[:at] if isinstance(node, tree.Compound) else []
+                    found.append((one, self.turns(one, before, own)))
         return found
 
     # ---- answers

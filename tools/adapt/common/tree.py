@@ -25,7 +25,12 @@ class Node:
     """A construct. `SLOTS` names the fields that are nodes or lists of nodes."""
 
     SLOTS: ClassVar[tuple[str, ...]] = ()
+    BACK: ClassVar[tuple[str, ...]] = ()  # the same, the last first
     coord: Optional[Coord]
+
+    def __init_subclass__(cls) -> None:
+        """Notes its slots, the last first: most of the time of a walk is looking at them."""
+        cls.BACK = cls.SLOTS[::-1]
 
     @property
     def where(self) -> Coord:
@@ -48,7 +53,7 @@ class Node:
         found: list[Node] = []
         for slot in self.SLOTS:
             part = getattr(self, slot)
-            if isinstance(part, list):
+            if part.__class__ is list:
                 found += part
             elif part is not None:
                 found.append(part)
@@ -659,9 +664,9 @@ def walk(node: Node) -> list[Node]:
     while rest:
         one = rest.pop()
         found.append(one)
-        for slot in one.SLOTS[::-1]:  # (the order of `children`, without its names of slots)
+        for slot in one.BACK:
             part = getattr(one, slot)
-            if isinstance(part, list):
+            if part.__class__ is list:
                 rest += part[::-1]
             elif part is not None:
                 rest.append(part)
@@ -670,7 +675,10 @@ def walk(node: Node) -> list[Node]:
 
 def with_parents(node: Node, parents: tuple[Node, ...] = ()) -> Iterator[tuple[Node, tuple[Node, ...]]]:
     """A tree's nodes, each with those around it, the nearest last; without what `sizeof` doesn't evaluate (6.5.3.4p2)."""
-    yield node, parents
-    if not (isinstance(node, UnaryOp) and node.op == "sizeof"):
-        for child in node.parts():
-            yield from with_parents(child, parents + (node,))
+    rest = [(node, parents)]
+    while rest:
+        one, around = rest.pop()
+        yield one, around
+        if one.SLOTS and not (isinstance(one, UnaryOp) and one.op == "sizeof"):
+            inner = around + (one,)
+            rest += [(child, inner) for child in one.parts()[::-1]]

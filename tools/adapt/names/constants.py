@@ -2,6 +2,7 @@
 
 import re
 from collections.abc import Callable
+from functools import cache
 from typing import TYPE_CHECKING, Optional, Union
 
 from ..common import kinds, tree
@@ -60,19 +61,27 @@ def codes(text: str) -> list[int]:
 def number(node: tree.Constant) -> tuple[int, Int]:
     """The value and the type of an integer or a character constant (6.4.4.1p5). Raises Refused for a constant that is
     no integer, or needs more than 64 bits."""
-    text = node.value
-    if "char" in node.type:
+    try:
+        return number_of(node.type, node.value)
+    except Refused as refused:
+        raise Refused(node.coord, refused.cause, refused.advice) from None
+
+
+@cache
+def number_of(kind_words: str, text: str) -> tuple[int, Int]:
+    """The same by the words of its type and its text. Raises Refused without a place."""
+    if "char" in kind_words:
         found = codes(text)
         if len(found) != 1 or not text.startswith("'"):
-            raise Refused(node.coord, f"the character constant {text}", "write its number")
+            raise Refused(None, f"the character constant {text}", "write its number")
         return found[0], kinds.INT
-    if "int" not in node.type:
-        raise Refused(node.coord, f"the constant {text}", "use integers in fixed point")
+    if "int" not in kind_words:
+        raise Refused(None, f"the constant {text}", "use integers in fixed point")
     if text.startswith("-"):
         return int(text), kinds.INT  # (a character of a string)
     whole = re.fullmatch(r"(0[xX][0-9a-fA-F]+|0[bB][01]+|\d+)([uUlL]*)", text)
     if not whole:
-        raise Refused(node.coord, f"the constant {text}", "write its number")
+        raise Refused(None, f"the constant {text}", "write its number")
     digits, suffix = whole.groups()
     base = {"0x": 16, "0b": 2}.get(digits[:2].lower(), 8 if digits[0] == "0" and len(digits) > 1 else 10)
     value = int(digits, base)
@@ -81,7 +90,7 @@ def number(node: tree.Constant) -> tuple[int, Int]:
         sign = not unsigned if kind.signed else base != 10 or unsigned
         if sign and (kind.bits == 64 or not long) and fit(value, kind) == value:
             return value, kind
-    raise Refused(node.coord, f"the constant {text} is too large", "use at most 64 bits")
+    raise Refused(None, f"the constant {text} is too large", "use at most 64 bits")
 
 
 def is_offset(node: Optional[tree.Node]) -> bool:

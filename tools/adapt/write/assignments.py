@@ -12,6 +12,7 @@ from ..common.refusals import Refused
 from ..common.tree import walk
 from ..effects.effects import STEPS
 from ..names.constants import LOGICAL
+from ..names.ranges import within
 from . import statement_exprs
 from .component import Component
 
@@ -88,6 +89,9 @@ class Assignments(Component):
         known = self.writer.constants.value(view.index)
         if known is not None and 0 <= known < (view.length or 0):
             return str(known << step) if known else ""
+        found = self.writer.ranges.of(view.index)
+        if found is not None and within(found, (0, (view.length or 0) - 1)):
+            return f"({index.within(9)} << {step})"
         wide = "unsigned long" if index.kind.bits == 64 else "unsigned int"
         return f"({index.within(9)} << {step} | -(({wide}) {index.within(UNARY)} >= {view.length}))"
 

@@ -220,11 +220,14 @@ class Calls(Component):
             for one in self.writer.outside.outer_call(node, function)[1]:
                 self.writer.emit(one)
             return
+        model = model_of(function)
+        if model is not None and self.takes_model(node, model) and self.writer.models.straight(node, model):
+            return
         text, after = self.call(node)
         if (
             function.definition is not None
             or isinstance(function.result, Int)
-            or model_of(function)
+            or model is not None
             or heap_call(function)
         ):
             self.writer.emit(text + ";")

@@ -8,6 +8,7 @@ from ..common.kinds import Int, Leaf
 from ..common.objects import Place, Variable
 from ..common.output import unmarked
 from ..common.tree import walk
+from ..names.ranges import within
 from .component import Component
 
 
@@ -51,7 +52,7 @@ class Elements(Component):
                 one = self.steady(node, one)
             known = self.writer.constants.value(node)
             inner = length > 1 and (whole is not None and (number(whole) != 0 or not self.alone(place, length)))
-            if inner and not self.writer.check and not self.below(node, one, length):
+            if inner and not self.writer.check and not self.below(node, length):
                 one = self.steady_value(one)
                 wide = "unsigned long" if one.kind.bits == 64 else "unsigned int"
                 text = one.within(UNARY) if not one.kind.signed else f"({wide}) {one.within(UNARY)}"
@@ -65,8 +66,9 @@ class Elements(Component):
             if whole is None:
                 whole = one
             else:
-                text = f"{whole.within(10)} * {length} + {one.within(10)}"
-                whole = Value(text, kinds.common(whole.kind, one.kind), 9, calls=whole.calls or one.calls)
+                base = times(whole, length).within(9) if column else f"{whole.within(10)} * {length}"
+                text, kind = f"{base} + {one.within(10)}", kinds.common(whole.kind, one.kind)
+                whole = Value(text, kind, 9, calls=whole.calls or one.calls)
         if tests and whole is not None:
             text = " | ".join([whole.within(4), *(f"-({one})" for one in tests)])
             whole = Value(text, kinds.INT if whole.kind.bits < 64 else whole.kind, 3, calls=whole.calls)
@@ -80,20 +82,10 @@ class Elements(Component):
         of = place.variable.type
         return isinstance(of, kinds.Array) and of.length == length and not place.path and len(place.indexes) == 1
 
-    def below(self, node: tree.Expression, value: Value, length: int) -> bool:
+    def below(self, node: tree.Expression, length: int) -> bool:
         """Whether an index is one of the array's at all events."""
-        known = self.writer.constants.value(node)
-        if known is not None:
-            return 0 <= known < length
-        if not value.kind.signed and not value.kind.boolean and 1 << value.kind.bits <= length:
-            return True
-        if isinstance(node, tree.BinaryOp) and node.op in "&%":
-            ends = [self.writer.constants.value(one) for one in (node.left, node.right)]
-            if node.op == "&":
-                return any(one is not None and 0 <= one < length for one in ends)
-            of = self.writer.constants.type_of(node)
-            return isinstance(of, Int) and not of.signed and ends[1] is not None and 0 < ends[1] <= length
-        return False
+        found = self.writer.ranges.of(node)
+        return found is not None and within(found, (0, length - 1))
 
     @staticmethod
     def kind_at(place: Place) -> kinds.Type:
@@ -144,6 +136,8 @@ class Elements(Component):
                     (leaf, [f"{name}[{n if index is None else unmarked(index.text)}]" for n in range(leaf.count)])
                 )
             else:
-                base = f"{unmarked(index.within(UNARY))} * {leaf.count}"
+                column = place.variable.home == "column"
+                base = times(index, leaf.count).within(9) if column else f"{index.within(UNARY)} * {leaf.count}"
+                base = unmarked(base)
                 found.append((leaf, [f"{name}[{base} + {n}]" for n in range(leaf.count)]))
         return found

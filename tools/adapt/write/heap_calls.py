@@ -1,15 +1,18 @@
 """The calls of malloc and its kin (7.22.3): a call fails, as C allows, where no slot of its pool is left, where more elements are asked
 for than a slot has, and where an answer says so: the first call of all reads one number, whose bit k lets call k fail."""
 
+import math
+from functools import cached_property
 from typing import TYPE_CHECKING, Union
 
 from ..bind.places import arguments
-from ..bind.values import PRIMARY, Value, number, plus
+from ..bind.values import PRIMARY, Value, number, plus, times
 from ..common import kinds, tree
 from ..common.kinds import BEGIN, END, INDEX, NIL, Region
+from ..common.objects import Function
 from ..common.output import FELL
 from ..common.refusals import Refused
-from ..points_to.heap import Pool
+from ..points_to.heap import GIVES, Pool, heap_call
 from .component import Component
 
 if TYPE_CHECKING:
@@ -18,6 +21,11 @@ if TYPE_CHECKING:
 Key = Union[
     str, tuple[str, Union[Region, tree.FuncCall]]
 ]  # what a text is for: of the whole, of a region, or of a call
+
+
+def plus_one(count: str) -> str:
+    """The text of a number of elements and 1."""
+    return str(int(count) + 1) if count.isdecimal() else f"{count} + 1"
 
 
 class Heap(Component):
@@ -40,24 +48,57 @@ class Heap(Component):
         if "fails" not in self.texts:
             self.asked = self.writer.spelling.fresh("malloc_fails", True)
             mask, known, calls = [self.name(stem, stem) for stem in ("malloc_mask", "malloc_known", "malloc_calls")]
+            own = "" if self.entries else f" static int {known};"
             self.texts[
                 "asked"
-            ] = f"unsigned int {self.asked}(void); static unsigned int {mask}; static int {known}; static int {calls};"
+            ] = f"unsigned int {self.asked}(void); static unsigned int {mask};{own} static int {calls};"
+            first = "" if self.entries else f"if (!{known}) {{ {mask} = {self.asked}(); {known} = 1; }} "
             self.texts["fails"] = (
-                f"static int {self.name('fails', 'heap_fails')}(void) {{ if (!{known}) {{ {mask} = {self.asked}(); {known} = 1; }} "
+                f"static int {self.name('fails', 'heap_fails')}(void) {{ {first}"
                 f"int bit = {mask} >> ({calls} & 31) & 1; {calls}++; return bit; }}"
             )
         return self.name("fails", "heap_fails")
 
+    @cached_property
+    def entries(self) -> set[Function]:
+        """The functions that read at their begin which calls fail: those that nothing calls and that come to such a call, where each
+        other one that does is static and called by its name. None where there is another, as then any call may be the first.
+        """
+        makers = [one for one in self.writer.names.functions if heap_call(one) in GIVES]
+        calls = [call for one in makers for call in one.calls]
+        if set(self.writer.columns.points.pools) - {node for _, node in calls}:
+            return set()
+        reached, rest = set[Function](), [caller for caller, _ in calls]
+        while rest:
+            one = rest.pop()
+            if one is None or one.taken or (one.calls and not one.static):
+                return set()
+            if one not in reached:
+                reached.add(one)
+                rest += [caller for caller, _ in one.calls]
+        return {one for one in reached if not one.calls}
+
+    def begin(self, function: Function) -> None:
+        """Writes at the begin of a function that it reads which calls fail, where it is one that does."""
+        if function in self.entries:
+            self.fails()
+            self.writer.emit(f"{self.name('malloc_mask', 'malloc_mask')} = {self.asked}();")
+
     def sizes(self, region: Region) -> str:
-        """The array that has at the begin of each slot in use how many elements it has, and 1; nothing where nobody asks."""
+        """The array that has at the begin of each slot in use 1, or where memory may be given back for other how many elements it has,
+        and 1; nothing where nobody asks."""
         if not region.freed or not self.has_pool(region):
             return ""
         key = ("sizes", region)
         if key not in self.texts:
-            length = self.writer.columns.counts[region]
-            self.texts[key] = f"static int {self.name(key, 'heap_size')}[{length}];"
+            length, kind = self.writer.columns.counts[region], "int" if self.is_resized(region) else "unsigned char"
+            self.texts[key] = f"static {kind} {self.name(key, 'heap_size')}[{length}];"
         return self.name(key, "heap_size")
+
+    def is_resized(self, region: Region) -> bool:
+        """Whether a call may give memory of a region back for other."""
+        pools = self.writer.columns.points.pools.values()
+        return any(one.called == "realloc" and one.variable in region.objects for one in pools)
 
     def has_pool(self, region: Region) -> bool:
         """Whether memory of the heap lies in a region."""
@@ -85,8 +126,10 @@ class Heap(Component):
                 if number(value) is not None
                 else Value(writer.temporary(kinds.SIZE, value.text), kinds.SIZE, PRIMARY)
             )
-        name = self.function(called, pool, region)
-        text = f"{name}({', '.join([*old, *(one.text for one in values)])})"
+        numbers = [number(one) for one in values]
+        name = self.function(called, pool, region, [] if None in numbers else [one or 0 for one in numbers])
+        texts = [one.text for one in values] if None in numbers else []
+        text = f"{name}({', '.join([*old, *texts])})"
         index = Value(writer.temporary(kinds.INT, text, "pointer"), kinds.INT, PRIMARY)
         return {INDEX: index, END: plus(index, self.elements(values, region)), BEGIN: index}
 
@@ -102,27 +145,37 @@ class Heap(Component):
         text = " * ".join(one.text for one in values)
         return Value(f"(int) ({text}{f' / {size}' if size > 1 else ''})", kinds.INT, PRIMARY)
 
-    def function(self, called: str, pool: Pool, region: Region) -> str:
-        """The function that a call becomes."""
+    def function(self, called: str, pool: Pool, region: Region, known: list[int]) -> str:
+        """The function that a call becomes; `known` are what it asks for, where all of it is constant."""
         key = (called, pool.node)
         name = self.name(key, called)
         if key in self.texts:
             return name
         fails, sizes, used = self.fails(), self.sizes(region), self.name(("used", pool.node), f"{name}_used")
-        size, begin = kinds.size(region.type) or 1, self.writer.columns.begins[(region, pool.variable)]
-        heads = {"malloc": "size_t n", "calloc": "size_t k, size_t n", "realloc": "int p, size_t n"}[called]
-        wide, whole = ("k > 65535 | n > 65535 | ", "k * n") if called == "calloc" else ("", "n")
-        whole = f"{whole} / {size}" if size > 1 else whole
-        # (fewer bytes than an element has are no element)
+        begin = self.writer.columns.begins[(region, pool.variable)]
+        heads, more, whole = self.asked_for(called, pool, kinds.size(region.type) or 1, known)
+        # (--compare, where no answer lets a call fail, ends its runs at FELL: there the pool has no room)
         body = f"int failed = {fails}(); "
-        body += f"if ({wide}{whole} > {pool.count} | {used} >= {pool.slots}) {{ {FELL} return {NIL}; }} "
-        body += f"if (failed) {{ return {NIL}; }} "
-        slot = f"{used} * {pool.count}" if pool.count > 1 else used
+        body += f"if (failed | {more}{used} >= {pool.slots}) {{ {FELL} return {NIL}; }} "
+        slot = times(Value(used, kinds.INT, PRIMARY), pool.count).text
         body += f"int q = {f'{begin} + ' if begin else ''}{slot}; {used}++; "
-        body += f"{sizes}[q] = {whole} + 1; " if sizes else ""
+        body += f"{sizes}[q] = {plus_one(whole) if self.is_resized(region) else '1'}; " if sizes else ""
         body += self.copied(region, sizes, whole) if called == "realloc" else ""
         self.texts[key] = f"static int {used}; static int {name}({heads}) {{ {body}return q; }}"
         return name
+
+    @staticmethod
+    def asked_for(called: str, pool: Pool, size: int, known: list[int]) -> tuple[str, str, str]:
+        """The parameters of what a call becomes, the test whether it asks for more elements than a slot has, with `|` behind it, and
+        the number of these; fewer bytes than an element has are no element."""
+        old = "int p" if called == "realloc" else ""
+        if known:
+            count = math.prod(known) // size
+            return old or "void", f"{count} > {pool.count} | " if count > pool.count else "", str(count)
+        heads = ", ".join([*([old] if old else []), *(["size_t k"] if called == "calloc" else []), "size_t n"])
+        wide, whole = ("k > 65535 | n > 65535 | ", "k * n") if called == "calloc" else ("", "n")
+        test = f"{wide}{whole} > {(pool.count + 1) * size - 1} | "
+        return heads, test, f"{whole} / {size}" if size > 1 else whole
 
     def copied(self, region: Region, sizes: str, whole: str) -> str:
         """What was in memory that is given back for other, as far as both reach."""

@@ -2,11 +2,13 @@
 two functions read and set an element. What is written names them as arrays; at last each access becomes a call."""
 
 import re
+from collections.abc import Callable
 from dataclasses import dataclass
 from typing import Optional, Protocol
 
 from ..common import tree
 from ..common.kinds import Int
+from ..common.output import unmarked
 from ..common.refusals import Refused
 
 MOST_ELEMENTS, MOST_CELLS = 1024, 16384
@@ -22,6 +24,7 @@ class Large:
     count: int
     reads: str
     sets: str
+    at: Optional[Callable[[int], str]] = None  # what reads an element whose number is a constant, where that is short
 
 
 class Fresh(Protocol):
@@ -108,7 +111,9 @@ class LargeArrays:
             made.append(text[at : found.start()])
             at = end + 1
             if sets is None:
-                made.append(f"{one.reads}({index})")
+                constant = unmarked(index).strip()
+                known = one.at is not None and constant.isdecimal()
+                made.append(one.at(int(constant)) if known and one.at else f"{one.reads}({index})")
                 continue
             op = sets.group(1)
             if op in ("++", "--"):

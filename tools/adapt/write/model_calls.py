@@ -6,9 +6,10 @@ from typing import TYPE_CHECKING, Union
 
 from ..bind.initialisers import none_of
 from ..bind.places import arguments
-from ..bind.values import PRIMARY, UNARY, Value
+from ..bind.values import PRIMARY, UNARY, Value, plus, times
 from ..common import kinds, tree
 from ..common.kinds import BEGIN, END, INDEX, NIL, Int, Pointer, Region, Struct
+from ..common.output import unmarked
 from ..common.refusals import Refused
 from ..points_to.models import WHOLE, Model, element_count, letter
 from .component import Component
@@ -22,7 +23,11 @@ OWN = re.compile(
     r"\b(a|b|c|i|j|n|last)\b"
 )  # the names of models; `$` stands before them until they have their own ones
 OPEN = "\x04"  # the bracket of an access that is written already
+EACH = re.compile(
+    r"for \(int i = 0; i < n; i\+\+\) \{ ([^{}]*;) \}(?: return a;)?"
+)  # a model that does the same with each element
 MOST_LEAVES = 64
+MOST_STRAIGHT = 16  # the integers that a call sets without a loop
 
 
 class Written:
@@ -48,15 +53,21 @@ class Written:
         whole = f"static {result} {self.name}({', '.join(heads)}) {{ {body} }}"
         return re.sub(r"\$(\w+)", lambda found: self.names(found.group(1)), whole)
 
+    def line(self, given: dict[str, str], at: int) -> str:
+        """What a model does with one element, by its number, where these texts stand for its names."""
+        found = EACH.fullmatch(self.model.body)
+        assert found
+        text = SET.sub(self.set_elements, OWN.sub(r"$\1", found[1]).replace("$i", str(at))).replace(OPEN, "[")
+        return re.sub(r"\$(\w+)", lambda word: given[word[1]], text)
+
     def access(self, at: str, index: str, path: tuple[str, ...], element: int = 0) -> str:
         """The text of an element, which is -1's where it lies outside of its object."""
-        whole, parts = f"${at} + {index}", self.regions[at].parts()
+        whole, parts = f"${at} + {index}" if index != "0" else f"${at}", self.regions[at].parts()
         tests = [f" | -({whole} >= ${at}_e)"] * (END in parts) + [f" | -({whole} < ${at}_b)"] * (BEGIN in parts)
         name, factor, add = self.leaf(self.regions[at], path)
-        checked = f"{whole}{''.join(tests)}"
-        if factor != 1 or add + element:
-            checked = f"({checked}) * {factor} + {add + element}"
-        return f"{name}{OPEN}{checked}]"
+        checked = Value(f"{whole}{''.join(tests)}", kinds.INT, 3 if tests else PRIMARY if index == "0" else 9)
+        checked = plus(times(checked, factor), Value(str(add + element), kinds.INT, PRIMARY))
+        return f"{name}{OPEN}{checked.text}]"
 
     def set_elements(self, found: "re.Match[str]") -> str:
         """The text that sets an element, integer by integer."""
@@ -102,6 +113,45 @@ class ModelCalls(Component):
                 texts.append(value)
         text = f"{self.writer.at(node)}{self.model_name(node, model, regions, count)}({', '.join(texts)})"
         return {**first, INDEX: Value(text, kinds.INT, PRIMARY, calls=True)}
+
+    def straight(self, node: tree.FuncCall, model: Model) -> bool:
+        """Writes a call of a constant number without a loop, where it sets 16 integers at most; whether it is one whose model does
+        the same with each element."""
+        given = dict(zip((letter(one) for one in model.parameters), arguments(node)))
+        pointers = [letter(one) for one in model.parameters if "*" in one]
+        if not EACH.fullmatch(model.body) or self.writer.constants.value(given["n"]) is None:
+            return False
+        regions = {at: self.model_region(given[at]) for at in pointers}
+        elem = regions["a"].type
+        count, rest = divmod(self.writer.constants.value(given["n"]) or 0, kinds.size(elem) or 1)
+        leaves = 1 if isinstance(elem, Int) else sum(leaf.count for leaf in kinds.leaves(elem))
+        if rest or count * leaves > MOST_STRAIGHT:
+            return False
+        self.number_argument(given["n"], "n", regions["a"], model, "")
+        self.writer.order.unsequenced(node, arguments(node))
+        names = self.names_of(given, regions, model)
+        made = Written(model, "", regions, self, "")
+        for number in range(count):
+            self.writer.emit(made.line(names, number))
+        return True
+
+    def names_of(self, given: dict[str, tree.Expression], regions: dict[str, Region], model: Model) -> dict[str, str]:
+        """The texts that stand for a model's parameters, each of which may be named often."""
+        names = dict[str, str]()
+        for at, argument in given.items():
+            if at in regions:
+                parts = self.writer.pointers.pointer(argument)
+                for part in regions[at].parts():
+                    names[at if part == INDEX else f"{at}_{part[1:]}"] = self.named(parts[part], "index")
+            elif at != "n":
+                text, _ = self.number_argument(argument, at, regions["a"], model, "")
+                names[at] = self.named(Value(text, kinds.INT, 0), "value")
+        return names
+
+    def named(self, value: Value, stem: str) -> str:
+        """The text of a value that may be named often: a name, a number, or a local that is written for it."""
+        text = unmarked(value.text)
+        return text if re.fullmatch(r"-?\w+", text) else self.writer.temporary(kinds.INT, value.text, stem)
 
     def number_argument(
         self, node: tree.Expression, at: str, region: Region, model: Model, count: str

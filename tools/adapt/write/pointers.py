@@ -11,6 +11,7 @@ from ..common.objects import Function, Place, Variable
 from ..common.output import unmarked
 from ..common.refusals import Refused
 from ..effects.effects import STEPS
+from ..names.ranges import SMALL, within
 from ..points_to.heap import heap_call
 from ..points_to.models import model_of
 from . import first_member_casts, statement_exprs
@@ -162,12 +163,21 @@ class Pointers(Component):
         place = self.writer.places.place(inner)
         return self.pointing(self.first_element(place), place.around or place)
 
+    def small(self, node: tree.Expression) -> Optional[Value]:
+        """A number of elements as an `int`, where its kinds and constants show that an array may have it; else None."""
+        found, known = self.writer.ranges.of(node), self.writer.constants.value(node)
+        if found is None or not within(found, SMALL):
+            return None
+        if known is not None:
+            return Value(str(known), kinds.INT, PRIMARY if known >= 0 else UNARY)
+        value = self.writer.elements.steady_value(self.writer.expressions.value(node))
+        if value.kind.bits < 32 or value.kind == kinds.INT:
+            return value
+        return Value(f"(int) {value.within(UNARY)}", kinds.INT, UNARY)
+
     def wide(self, value: Value) -> Value:
         """A number of elements by which a pointer is moved; one that no array has becomes 32,768, which lies outside of all."""
-        kind = value.kind
-        if number(value) is not None or kind.bits == 8 or (kind.bits == 16 and kind.signed):
-            return value
-        text = value.within(UNARY)
+        kind, text = value.kind, value.within(UNARY)
         if kind.signed and kind.bits == 64:
             bad = f"((unsigned long) {text} + 16384 > 32767)"
         else:
@@ -190,8 +200,10 @@ class Pointers(Component):
 
     def step(self, node: tree.Expression) -> Value:
         """A number of elements by which a pointer is moved, outside of all arrays where no array has so many."""
-        return self.part_of_way(node) or self.wide(
-            self.writer.elements.steady_value(self.writer.expressions.value(node))
+        return (
+            self.part_of_way(node)
+            or self.small(node)
+            or self.wide(self.writer.elements.steady_value(self.writer.expressions.value(node)))
         )
 
     def part_of_way(self, node: tree.Expression) -> Optional[Value]:
@@ -315,14 +327,13 @@ class Pointers(Component):
         parts = {name: self.writer.elements.steady_value(one) for name, one in self.pointer(node.pointer).items()}
         index, tests = parts[INDEX], []
         if node.index is not None and self.writer.constants.value(node.index) != 0:
-            by = self.writer.elements.steady_value(self.writer.expressions.value(node.index))
-            if number(by) is None and by.kind.bits > 8 and by.kind != kinds.Int(16, True, ""):
-                bad = (
-                    f"(unsigned long) {by.within(UNARY)} + 16384 > 32767"
-                    if by.kind.signed and by.kind.bits == 64
-                    else f"{by.within(8)} > {MOST}"
+            by = self.small(node.index)
+            if by is None:
+                by = self.writer.elements.steady_value(self.writer.expressions.value(node.index))
+                low = by.kind.signed and by.kind.bits == 64
+                tests.append(
+                    f"(unsigned long) {by.within(UNARY)} + 16384 > 32767" if low else f"{by.within(8)} > {MOST}"
                 )
-                tests.append(bad)
             if by.kind.bits == 64:
                 by = Value(f"(int) {by.within(UNARY)}", kinds.INT, UNARY)
             index = plus(index, times(by, node.stride))

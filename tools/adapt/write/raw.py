@@ -3,18 +3,31 @@ union's members differ. An integer of more than a byte is read and set by two fu
 (large.py); an access that isn't within its object becomes the index -1."""
 
 from dataclasses import replace
-from typing import TYPE_CHECKING
+from functools import partial
+from typing import TYPE_CHECKING, Optional
 
 from ..bind.places import At
 from ..bind.values import PRIMARY, UNARY, Known, Value, number, plus, times
-from ..common import kinds
+from ..common import kinds, tree
 from ..common.kinds import BEGIN, END, Int
 from ..common.objects import Place
+from ..names.ranges import SMALL, Range, within
 from .component import Component
 from .large import Large
 
 if TYPE_CHECKING:
     from .writer import Writer
+
+WIDEST: Range = -(1 << 63), 1 << 64
+
+
+def whole(column: str, kind: Int, begin: Optional[int] = None) -> str:
+    """The text of an integer out of its bytes, which begin at `i`, or at a number."""
+    word, parts = "unsigned long" if kind.bits == 64 else "unsigned int", []
+    for at in range(kind.bits // 8):
+        index = str(begin + at) if begin is not None else f"i + {at}" if at else "i"
+        parts.append(f"({word}) {column}[{index}]{f' << {8 * at}' if at else ''}")
+    return f"({kind.text}) ({' | '.join(parts)})"
 
 
 class Raw(Component):
@@ -39,7 +52,7 @@ class Raw(Component):
             reads, sets = self.writer.spelling.fresh(f"{name}_at", True), self.writer.spelling.fresh(
                 f"{name}_set", True
             )
-            self.writer.large.known[name] = Large(name, kind, 0, reads, sets)
+            self.writer.large.known[name] = Large(name, kind, 0, reads, sets, partial(whole, column, kind))
             self.texts[key] = self.functions(column, kind, reads, sets, bool(place.variable.const))
         return self.names[key]
 
@@ -47,16 +60,11 @@ class Raw(Component):
     def functions(column: str, kind: Int, reads: str, sets: str, const: bool) -> str:
         """The functions that read and set an integer of several bytes."""
         count = kind.bits // 8
-
-        word = {32: "unsigned int", 64: "unsigned long"}.get(kind.bits, "unsigned int")
-        parts = [
-            f"({word}) {column}[i{f' + {at}' if at else ''}]{f' << {8 * at}' if at else ''}" for at in range(count)
-        ]
-        text = f"static {kind.text} {reads}(long i) {{ return ({kind.text}) ({' | '.join(parts)}); }}"
+        text = f"static {kind.text} {reads}(int i) {{ return {whole(column, kind)}; }}"
         if const:
             return text
         steps = [f"{column}[i{f' + {at}' if at else ''}] = v{f' >> {8 * at}' if at else ''};" for at in range(count)]
-        return f"{text} static void {sets}(long i, {kind.text} v) {{ {' '.join(steps)} }}"
+        return f"{text} static void {sets}(int i, {kind.text} v) {{ {' '.join(steps)} }}"
 
     def front(self) -> list[str]:
         """What stands in front of all else."""
@@ -73,21 +81,22 @@ class Raw(Component):
         for node, length in place.shifted():
             one = writer.expressions.value(node)
             if not isinstance(node, At):
-                one = self.narrow(writer.elements.steady_value(one), tests)
+                one = self.narrow(writer.elements.steady_value(one), tests, node)
             base = plus(times(base, length), one)
         if at is not None and at.tests is not None:
             tests += at.tests
         inner = Value(str(place.offset), kinds.INT, PRIMARY)
         for node, step in place.inside:
             inner = plus(
-                inner, times(self.narrow(writer.elements.steady_value(writer.expressions.value(node)), tests), step)
+                inner,
+                times(self.narrow(writer.elements.steady_value(writer.expressions.value(node)), tests, node), step),
             )
         total, size = plus(base, inner), kinds.size(place.type) or 1
         if at is not None and at.ends:
             last = plus(total, Value(str(size - 1), kinds.INT, PRIMARY))
             tests += [f"{last.within(8)} >= {at.ends[END].within(8)}"] if END in at.ends else []
             tests += [f"{total.within(8)} < {at.ends[BEGIN].within(8)}"] if BEGIN in at.ends else []
-        elif place.whole and number(inner) is None:
+        elif place.whole and number(inner) is None and not within(self.inner_range(place), (0, place.whole - size)):
             tests.append(f"(unsigned int) ({inner.text}) > {place.whole - size}")
         if tests and checked:
             text = " | ".join([total.within(4), *(f"-({writer.elements.plain(one)})" for one in tests)])
@@ -96,10 +105,18 @@ class Raw(Component):
             total = Value(writer.temporary(kinds.INT, total.text, "index"), kinds.INT, PRIMARY)
         return total
 
-    @staticmethod
-    def narrow(value: Value, tests: list[str]) -> Value:
-        """An index as an `int`, with the test that no array has it."""
-        if number(value) is None and value.kind.bits > 8 and value.kind != kinds.Int(16, True, ""):
+    def inner_range(self, place: Place) -> Range:
+        """Between which bytes of its object a place begins."""
+        low = high = place.offset
+        for node, step in place.inside:
+            found = self.writer.ranges.of(node) or WIDEST
+            low, high = low + found[0] * step, high + found[1] * step
+        return low, high
+
+    def narrow(self, value: Value, tests: list[str], node: tree.Expression) -> Value:
+        """An index as an `int`, with the test that no array has it, unless its kinds and constants show it."""
+        found = self.writer.ranges.of(node)
+        if number(value) is None and (found is None or not within(found, SMALL)):
             low = value.kind.signed and value.kind.bits == 64
             tests.append(
                 f"(unsigned long) {value.within(UNARY)} + 16384 > 32767" if low else f"{value.within(8)} > 16383"

@@ -1,28 +1,48 @@
 """Writes the statements of a function, each on the line that it has."""
 
 from bisect import bisect_left
-from typing import Optional
+from collections.abc import Callable, Sequence
+from typing import TYPE_CHECKING, Optional
 
 from ..bind.initialisers import filled, none_of
 from ..common import kinds, tree
 from ..common.kinds import Int, Pointer, Struct
 from ..common.objects import Place, Variable
 from ..common.refusals import Refused
-from ..common.tree import LOOPS
+from ..common.tree import LOOPS, walk
 from .component import Component
 from .statement_exprs import ranged
 from .wholes import MOST_COPIED
 
+if TYPE_CHECKING:
+    from .writer import Writer
 
-def continues(node: tree.Node) -> bool:
-    """Whether a `continue` in it belongs to a loop around it."""
+MOST_STEPS = 8  # the statements that the steps of one `for` add before its `continue`s
+
+
+def continues(node: tree.Node) -> list[tree.Continue]:
+    """Each `continue` in it that belongs to a loop around it."""
     if isinstance(node, tree.Continue):
-        return True
-    return not isinstance(node, LOOPS) and any(continues(child) for _, child in node.children())
+        return [node]
+    return [] if isinstance(node, LOOPS) else [one for _, child in node.children() for one in continues(child)]
+
+
+def names(nodes: Sequence[tree.Node]) -> set[str]:
+    """The names in some trees."""
+    return {one.name for node in nodes for one in walk(node) if isinstance(one, tree.ID)}
+
+
+def declared(node: tree.Node) -> set[str]:
+    """The names that are declared in a statement."""
+    return {one.name or "" for one in walk(node) if isinstance(one, (tree.Decl, tree.Typedef, tree.Enumerator))}
 
 
 class Statements(Component):
     """The statements of one function (6.8)."""
+
+    def __init__(self, writer: "Writer") -> None:
+        super().__init__(writer)
+        self.steps: dict[tree.Node, Sequence[tree.Expression]] = {}  # before each `continue`
 
     def statement(self, node: tree.Node) -> None:
         """Writes one statement; what is refused in it is gathered."""
@@ -55,7 +75,7 @@ class Statements(Component):
         elif isinstance(node, tree.LOOPS):
             self.write_loop(node)
         elif isinstance(node, (tree.Break, tree.Continue)):
-            self.writer.emit("break;" if isinstance(node, tree.Break) else "continue;")
+            self.write_jump(node)
         elif isinstance(node, tree.Return):
             self.write_Return(node)
 
@@ -271,40 +291,91 @@ class Statements(Component):
         step = self.head(node.next)
         test = "" if node.cond is None else self.inline_test(node.cond)
         if step is None and node.next is not None:
-            self.stepwise(node, node.next, init or "")
-        elif test is None:
-            self.writer.emit(f"for ({init or ''}; ; {step or ''}) {{")
-            self.leave(node.cond)
-            self.body(node.stmt)
+            self.stepwise(node, node.next, init or "", test)
         else:
-            self.writer.emit(f"for ({init or ''}; {test}; {step or ''}) {{")
+            self.begin_for(node, init or "", test, step or "")
             self.body(node.stmt)
         if local:
             self.writer.emit("}")
 
-    def head(self, node: Optional[tree.Node]) -> Optional[str]:
-        """A part of a `for` as the one statement that it is in the profile; None where it isn't one."""
-        if node is None or isinstance(node, tree.ExprList):
-            return None
+    def begin_for(self, node: tree.For, init: str, test: Optional[str], step: str) -> None:
+        """Writes the head of a `for`, and where its condition takes statements that it is left."""
+        self.writer.emit(f"for ({init}; {test or ''}; {step}) {{")
+        if test is None:
+            self.leave(node.cond)
+
+    def pieces(self, write: Callable[[], object]) -> list[str]:
+        """What would be written, which isn't."""
         pieces, self.writer.file.pieces = self.writer.file.pieces, []
         with self.writer.names.refusals.gathered():
-            if isinstance(node, tree.DeclList):
-                self.write_DeclList(node)
-            elif isinstance(node, tree.Expression):
-                self.writer.assignments.effect(node)
+            write()
         made, self.writer.file.pieces = self.writer.file.pieces, pieces
-        return made[0][1].rstrip(";") if len(made) == 1 else None
+        return [text for _, text in made]
 
-    def stepwise(self, node: tree.For, step: tree.Expression, init: str) -> None:
-        """Writes a `for` whose step is several statements: they are taken before the condition of each turn but the first."""
-        again = self.writer.temporary(kinds.INT, "0", "again")
-        self.writer.emit(f"for ({init}; ; ) {{")
-        self.writer.expressions.braced(f"if ({again})", lambda: self.inner(step))
-        self.writer.emit(f"{again} = 1;")
-        self.leave(node.cond)
-        self.body(node.stmt)
+    def head(self, node: Optional[tree.Node]) -> Optional[str]:
+        """A part of a `for` as the one statement that it is in the profile; None where it isn't one."""
+        if isinstance(node, tree.DeclList):
+            listed = node
+            made = self.pieces(lambda: self.write_DeclList(listed))
+        elif isinstance(node, tree.Expression) and not isinstance(node, tree.ExprList):
+            one = node
+            made = self.pieces(lambda: self.writer.assignments.effect(one))
+        else:
+            return None
+        return made[0].rstrip(";") if len(made) == 1 else None
+
+    def stepwise(self, node: tree.For, step: tree.Expression, init: str, test: Optional[str]) -> None:
+        """Writes a `for` whose step is several statements: all but the last stand at the end of its body and before each
+        `continue` of it, the last one in its head where it is one statement (6.8.5.3, 6.8.6.2p2). Where they can't stand there,
+        they are taken before the condition of each turn but the first."""
+        if not self.may_stand_within(node, step):
+            again = self.writer.temporary(kinds.INT, "0", "again")
+            self.writer.emit(f"for ({init}; ; ) {{")
+            self.writer.expressions.braced(f"if ({again})", lambda: self.inner(step))
+            self.writer.emit(f"{again} = 1;")
+            self.leave(node.cond)
+            self.body(node.stmt)
+            return
+        steps = step.exprs if isinstance(step, tree.ExprList) else [step]
+        last = self.head(steps[-1])
+        self.begin_for(node, init, test, last or "")
+        self.body_and_steps(node, steps if last is None else steps[:-1])
+
+    def body_and_steps(self, node: tree.For, steps: Sequence[tree.Expression]) -> None:
+        """Writes the body of a `for` with steps at its end, on the line of its last brace."""
+        self.steps |= {one: steps for one in continues(node.stmt)}
+        hidden = bool(names(steps) & declared(node.stmt))
+        if hidden:
+            self.writer.emit("{")
+        self.inner(node.stmt)
+        self.go_to_end(node.stmt)
+        line = self.writer.line
+        if hidden:
+            self.writer.emit("}")
+        self.writer.file.emit(line, "")  # (what follows stands on this line, and belongs to the steps' own)
+        for one in steps:
+            self.statement(one)
+        self.writer.line = line
+        self.writer.emit("}")
+
+    def may_stand_within(self, node: tree.For, step: tree.Expression) -> bool:
+        """Whether steps may be written before each `continue` of a `for`: these are few, what they write is short and has no goals,
+        and no block around one has a name of theirs."""
+        found = continues(node.stmt)
+        if not found:
+            return True
+        made = self.pieces(lambda: self.inner(step))
+        plain = not any(word in text for text in made for word in ("{", "?", "&&", "||"))
+        return len(found) * len(made) <= MOST_STEPS and plain and not names([step]) & declared(node.stmt)
 
     # ---- jumps
+
+    def write_jump(self, node: tree.Break | tree.Continue) -> None:
+        """A jump to the end of a loop or out of it, behind the steps that its loop takes there (6.8.6.2, 6.8.6.3)."""
+        for one in self.steps.get(node, []):
+            self.statement(one)
+        self.writer.go(node)
+        self.writer.emit("break;" if isinstance(node, tree.Break) else "continue;")
 
     def write_Return(self, node: tree.Return) -> None:
         """A return, behind what the function hands back by copies (6.8.6.4)."""

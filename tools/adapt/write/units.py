@@ -266,6 +266,7 @@ class Units(Component):
     def whole_function(self, function: Function, node: tree.FuncDef) -> None:
         """Writes a function, with what stands before it."""
         self.writer.function = function
+        self.writer.ranges.learn(node.body)
         self.declared_within(function, node.body)
         with self.writer.names.refusals.gathered():
             self.before(function)
@@ -278,6 +279,7 @@ class Units(Component):
         with self.writer.names.refusals.gathered():
             self.writer.emit(self.heading(function) + " {")
         self.normal(function)
+        self.writer.heap.begin(function)
         self.writer.column_items.into_columns(function)
         items = node.body.block_items or []
         for one in items:

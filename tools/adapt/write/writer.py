@@ -17,6 +17,7 @@ from ..layout.columns import Columns
 from ..layout.lifetimes import Lifetimes
 from ..layout.spelling import Special, Spelling
 from ..names.names import Names
+from ..names.ranges import Ranges
 from .assignments import Assignments
 from .calls import Calls
 from .checked import CheckedAssignments, CheckedConversions, CheckedExpressions
@@ -70,6 +71,7 @@ class Writer:
         self.columns, self.choosers = known.columns, known.choosers
         self.lifetimes, self.inputs = known.lifetimes, known.inputs
         self.constants, self.spelling, self.check = known.names.constants, spelling, asked.indexes
+        self.ranges = Ranges(known.names)
         self.files: dict[str, File] = {}
         self.registers: list[Variable] = []
         self.special: Special = {}
