@@ -9,6 +9,7 @@ from ..common.kinds import Array, Int, Pointer, Signature, Struct, Type, fit
 from ..common.objects import Enumerator, Function, Variable
 from ..common.refusals import Refused
 from . import unions
+from .listed import Listed
 
 if TYPE_CHECKING:
     from .names import Names
@@ -223,22 +224,13 @@ class Constants:
 
     def length_of(self, init: tree.Expression, of: Type) -> int:
         """The length of an array that has none of its own, by its initialiser (6.7.9p22). The number is one of
-        elements. Raises Refused for elements without braces of their own, unless they are integers."""
-        if isinstance(init, tree.Constant):
-            return len(codes(init.value)) + 1
-        at, most = 0, 0
-        items = init.exprs or [] if isinstance(init, tree.InitList) else []
-        braced = all(isinstance(one, (tree.InitList, tree.NamedInitializer)) for one in items)
-        if not braced and not isinstance(of, (Int, Pointer)):
-            raise Refused(
-                init.coord, "an array without a length whose values have no braces of their own", "give its length"
-            )
-        for one in items:
-            if isinstance(one, tree.NamedInitializer):
-                at = self.value(one.name[0]) or 0
-            at += 1
-            most = max(most, at)
-        return most
+        elements. Raises Refused where the list doesn't fit such elements."""
+        return Listed(self, Array(of, None), init).length
+
+    @staticmethod
+    def characters(node: tree.Constant) -> list[int]:
+        """The values of a string's elements, with its 0 (6.4.5p6)."""
+        return codes(node.value) + [0]
 
     def value(self, node: tree.Expression) -> Optional[int]:
         """The value of a constant expression; None where it is none."""

@@ -93,7 +93,10 @@ class Wholes(Component):
         made = filled(self.writer.constants, target.type, source.init)
         if made.wholes:
             raise Refused(source.coord, "a struct within a compound literal", "give its members one by one")
-        self.writer.order.unsequenced(source, list(made.given.values()))
+        self.writer.order.unsequenced(source, made.expressions)
+        if self.writer.raw.is_bytes_alone(target):
+            values = self.writer.raw.first_bytes(made)
+            return [(Leaf((), (len(values),), kinds.Int(8, False, "")), values)]
         reads = self.writer.effected.of(source)
         apart = not any(one in reads.reads for one in objects(target)) and not any(reads.reads.values())
         found = []
