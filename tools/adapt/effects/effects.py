@@ -5,6 +5,7 @@ from typing import Optional
 
 from ..bind.places import Places, arguments
 from ..common import tree
+from ..common.parsing import printed
 from ..common.kinds import Array, Int, Pointer, Struct, Type, leaves
 from ..common.objects import Function, Place, Variable
 from ..common.refusals import Refused
@@ -22,20 +23,27 @@ OUTSIDE: Object = (None, (), False)
 
 @dataclass
 class Effects:
-    """The objects that are read and written, each with whether a called function does it."""
+    """The objects that are read and written, each with whether a called function does it; `elements` are those of arrays that an
+    expression itself names, each with how, and whether it is written."""
 
     reads: dict[Object, bool] = field(default_factory=dict)
     writes: dict[Object, bool] = field(default_factory=dict)
+    elements: list[tuple[Object, tree.Node, bool]] = field(default_factory=list)
 
     def add(self, other: "Effects", called: bool = False) -> None:
         """Adds what another one has, as done by a call with `called`."""
         for ours, theirs in ((self.reads, other.reads), (self.writes, other.writes)):
             for one, by_call in theirs.items():
                 ours[one] = ours.get(one, False) or by_call or called
+        self.elements += other.elements
 
     def clash(self, other: "Effects") -> Optional[Object]:
-        """An object for which the order of both matters. Elements that plain expressions name are different ones, or C
+        """An object for which the order of both matters. Elements that plain expressions name otherwise are different ones, or C
         gives the whole no meaning."""
+        for one, node, written in self.elements:
+            for two, named, too in other.elements:
+                if (written or too) and one == two and alike(node, named):
+                    return one
         for a, b in ((self, other), (other, self)):
             for one, by_call in a.writes.items():
                 for theirs in (b.reads, b.writes):
@@ -50,6 +58,25 @@ def may_be(one: Object, two: Object) -> bool:
     """Whether arrays may be the same although their names differ: a parameter may stand for any that outlives its call."""
     pair = [each[0] for each in (one, two) if each[2] and each[0] and each[0].home != "local"]
     return len(pair) == 2 and pair[0] is not pair[1] and "parameter" in (pair[0].home, pair[1].home)
+
+
+def alike(one: tree.Node, other: tree.Node) -> bool:
+    """Whether two expressions without effects are the same, so that they name one object."""
+    if isinstance(one, (tree.ID, tree.Constant)):
+        return isinstance(other, type(one)) and printed(one) == printed(other)
+    if not isinstance(one, (tree.StructRef, tree.ArrayRef, tree.UnaryOp, tree.BinaryOp)) or type(one) is not type(
+        other
+    ):
+        return False
+    pairs = list(zip(one.parts(), other.parts()))
+    return sign(one) == sign(other) and sign(one) not in STEPS and all(alike(mine, theirs) for mine, theirs in pairs)
+
+
+def sign(node: tree.Node) -> str:
+    """The operator of an expression."""
+    if isinstance(node, (tree.UnaryOp, tree.BinaryOp)):
+        return node.op
+    return node.type if isinstance(node, tree.StructRef) else ""
 
 
 def objects(place: Place) -> list[Object]:
@@ -169,6 +196,7 @@ class Effected:
         else:
             for child in node.parts():
                 found.add(self.of(child))
+            found.elements = found.elements if isinstance(node, tree.Expression) else []
             init = node.init if isinstance(node, tree.Decl) else None
             variable = self.names.meaning.get(node) if init is not None else None
             if isinstance(variable, Variable) and variable.home == "local":
@@ -191,6 +219,9 @@ class Effected:
             found.add(self.of(place.view.index))
         if place.variable.is_input:
             found.writes[OUTSIDE] = True
+        found.elements += [
+            (one, node, written) for one in objects(place) if one[2] and isinstance(place.type, (Int, Pointer))
+        ]
         if read:
             found.add(Effects({one: False for one in objects(place)}))
         if written:
