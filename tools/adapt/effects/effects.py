@@ -245,12 +245,10 @@ class Effected:
         if self.choosers.targets(function) is not None:
             found.add(self.of(node.name))
         summary = self.summary_of(function)
-        shared = Effects(
-            *(
-                {one: True for one in part if one[0] is None or one[0].shared}
-                for part in (summary.reads, summary.writes)
-            )
-        )
+        reads, writes = [
+            {one: True for one in part if one[0] is None or one[0].shared} for part in (summary.reads, summary.writes)
+        ]
+        shared = Effects(reads, writes)
         found.add(shared)
         for argument, parameter in zip(arguments(node), function.parameters):
             if isinstance(parameter.type, Int) or parameter.binding == "pointer":
