@@ -80,11 +80,20 @@ def sign(node: tree.Node) -> str:
 
 
 def objects(place: Place) -> list[Object]:
-    """The integers of a place as objects."""
+    """The integers of a place as objects; bytes are one."""
+    region = place.region.root() if place.region is not None else None
+    if region is not None and region.raw and place.variable is region.column:
+        return [(place.variable, (), True)]
     inner = bool(place.indexes) or place.variable.home == "column"
     if place.view is not None:
         return [(place.variable, place.path, inner)]
     return [(place.variable, place.path + leaf.path, inner or bool(leaf.dims)) for leaf in leaves(place.type)]
+
+
+def in_pairs(place: Place, parameter: Variable) -> list[tuple[Object, Object]]:
+    """The integers of an object that is handed over, each with the parameter's that stands for it."""
+    own, theirs = objects(place), objects(Place(parameter, (), (), pointee(parameter)))
+    return list(zip(own if len(own) > 1 else own * len(theirs), theirs))
 
 
 class Effected:
@@ -280,9 +289,7 @@ class Effected:
             return
         for index, _ in place.indexes:
             found.add(self.of(index))
-        whole = objects(place)
-        own = objects(Place(parameter, (), (), pointee(parameter)))
-        for mine, theirs in zip(whole, own):
+        for mine, theirs in in_pairs(place, parameter):
             lent = isinstance(parameter.type, Array)
             if not lent or theirs in summary.reads:
                 found.reads[mine] = found.reads.get(mine, False) or not isinstance(parameter.type, Struct)

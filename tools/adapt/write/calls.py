@@ -12,7 +12,7 @@ from ..common import kinds, tree
 from ..common.kinds import INDEX, Int, Pointer, Struct
 from ..common.objects import Function, Place, Variable
 from ..common.refusals import Refused
-from ..effects.effects import Object, may_be, objects, pointee
+from ..effects.effects import Object, in_pairs, may_be, objects, pointee
 from ..expand.library import OUTPUT
 from ..names.constants import is_offset
 from ..points_to.heap import heap_call
@@ -174,8 +174,7 @@ class Calls(Component):
                 place = self.writer.effected.target(argument, parameter)
             except Refused:
                 continue
-            own = objects(Place(parameter, (), (), pointee(parameter)))
-            for mine, theirs in zip(objects(place), own):
+            for mine, theirs in in_pairs(place, parameter):
                 written = theirs in summary.writes
                 copied = not theirs[2] or by_value
                 if not by_value or theirs[2]:
