@@ -87,7 +87,18 @@ def objects(place: Place) -> list[Object]:
     inner = bool(place.indexes) or place.variable.home == "column"
     if place.view is not None:
         return [(place.variable, place.path, inner)]
-    return [(place.variable, place.path + leaf.path, inner or bool(leaf.dims)) for leaf in leaves(place.type)]
+    found = [(where(place, leaf.path), leaf) for leaf in leaves(place.type)]
+    return [(*at, inner or bool(leaf.dims) or at[0].home == "column") for at, leaf in found]
+
+
+def where(place: Place, path: tuple[str, ...]) -> tuple[Variable, tuple[str, ...]]:
+    """The variable in which a member of a place lies, and the members that lead to it there: some have columns of their own."""
+    variable, inside, region = place.variable, place.path, place.region
+    for name in path:
+        region = region.root().members.get(name) if region is not None else None
+        column = region.root().column if region is not None else None
+        variable, inside = (variable, (*inside, name)) if column is None else (column, ())
+    return variable, inside
 
 
 def in_pairs(place: Place, parameter: Variable) -> list[tuple[Object, Object]]:
