@@ -180,6 +180,13 @@ class Constants:
     def size_of(self, node: tree.Expression) -> int:
         """What `sizeof` gives of a type or an expression. The number is one of bytes (6.5.3.4p2). Raises Refused
         where it isn't known."""
+        known = self.known_size(node)
+        if known is None:
+            raise Refused(node.coord, "the size isn't known", "write its number")
+        return known
+
+    def known_size(self, node: tree.Expression) -> Optional[int]:
+        """The same; None where it isn't known."""
         meaning = self.names.meaning.get(node) if isinstance(node, tree.ID) else None
         if (
             isinstance(meaning, Variable)
@@ -188,10 +195,7 @@ class Constants:
         ):
             return 8
         of = self.names.types.get(node) if isinstance(node, tree.Typename) else self.type_of(node)
-        known = kinds.size(of) if of is not None else None
-        if known is None:
-            raise Refused(node.coord, "the size isn't known", "write its number")
-        return known
+        return kinds.size(of) if of is not None else None
 
     def offset(self, node: tree.Expression, of: Type) -> tuple[int, Type]:
         """Where a member lies in a struct, and its type (7.19p3). Raises Refused where it isn't known."""
@@ -263,7 +267,8 @@ class Constants:
     def known_unary(self, node: tree.UnaryOp) -> Optional[tuple[int, Int]]:
         """The same of a unary expression."""
         if node.op == "sizeof":
-            return self.size_of(node.expr), kinds.SIZE
+            known = self.known_size(node.expr)
+            return None if known is None else (known, kinds.SIZE)
         one = self.known(node.expr)
         if one is None or node.op not in "+-~!":
             return None
