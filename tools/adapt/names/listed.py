@@ -169,7 +169,8 @@ class Listed:
         return [known]
 
     def in_order(self, of: Type, steps: Steps, items: Sequence[tree.Expression]) -> None:
-        """The parts of an array or a struct get the values of a list; behind a designator the next ones follow it (6.7.9p17)."""
+        """The parts of an array or a struct get the values of a list; behind a designator the next ones follow it (6.7.9p17). Raises
+        Refused where there are more values than parts."""
         stack = [Begun(of, steps)]
         for item in items:
             if isinstance(item, tree.NamedInitializer):

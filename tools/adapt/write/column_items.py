@@ -67,7 +67,8 @@ class ColumnItems(Component):
             )
 
     def column_values(self) -> dict[tuple[Variable, Path], dict[int, str]]:
-        """The first values that lie in columns, by the column, the members and the number of the element."""
+        """The first values that lie in columns, by the column, the members and the number of the element. Raises Refused for a
+        struct as the first value of a part."""
         found: dict[tuple[Variable, Path], dict[int, str]] = {}
         for variable in [*self.writer.names.variables, *self.writer.columns.points.texts.values()]:
             if variable.init is None or variable.home in ("local", "parameter"):
