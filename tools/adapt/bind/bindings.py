@@ -181,10 +181,10 @@ class Bindings:
                 plus = node.expr if isinstance(node, tree.UnaryOp) and node.op == "*" else None
                 base = node.name if isinstance(node, tree.ArrayRef) else None
                 base = plus.left if isinstance(plus, tree.BinaryOp) else base
-                constant = isinstance(node, tree.ArrayRef) and self.names.constants.value(node.subscript) == 0
-                meaning = self.names.meaning.get(base) if base is not None and not constant else None
+                meaning = self.names.meaning.get(base) if base is not None else None
                 if isinstance(meaning, Variable) and meaning in parameters:
-                    found.add(meaning)
+                    constant = isinstance(node, tree.ArrayRef) and self.names.constants.value(node.subscript) == 0
+                    found |= set() if constant else {meaning}
         handed = [
             (self.names.meaning.get(argument), parameter)
             for function in self.names.functions

@@ -112,6 +112,7 @@ class Places:
     def carrier_kind(place: Place) -> Int:
         """The kind of the integer of which a place is a part."""
         of = place.variable.type
+        of = of.to if isinstance(of, Pointer) and place.variable.is_bound else of
         for name in place.path:
             of = kinds.member(kinds.element(of), name)
         found = kinds.element(of)

@@ -128,7 +128,7 @@ class Texts:
 
     def __init__(self, writer: Writer) -> None:
         """Raises Stop where nothing can be compared."""
-        self.writer = writer
+        self.writer, self.front = writer, set(writer.raw.front())
         functions = [one for one in writer.names.functions if one.definition is not None and not one.static]
         functions = [one for one in functions if not isinstance(one.coord, Spot)]
         # (main is the comparison's own)
@@ -219,10 +219,11 @@ class Texts:
                 text += f"{one.result.text} {one.out}(void) {{ return ({one.result.text}) adapt_answer(); }}\n"
         if self.writer.heap.asked:
             text += f"unsigned int {self.writer.heap.asked}(void) {{ return 0; }}\n"
-        return [
-            f"{text}void adapt_dump_0(void) {{\n{self.dump(self.in_order(), True)}\n}}\n",
-            self.driver(1),
-        ]
+        dump = self.dump(self.in_order(), True)
+        reads = "".join(
+            f"{one}\n" for one in self.writer.raw.front() if one not in self.front
+        )  # (that nothing else needs)
+        return [f"{text}{reads}void adapt_dump_0(void) {{\n{dump}\n}}\n", self.driver(1)]
 
     def in_order(self) -> list[Variable]:
         """The compared objects in the order of their sources."""

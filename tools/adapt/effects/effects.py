@@ -5,6 +5,7 @@ from typing import Optional
 
 from ..bind.places import Places, arguments
 from ..common import tree
+from ..common.parsing import printed
 from ..common.kinds import Array, Int, Pointer, Struct, Type, leaves
 from ..common.objects import Function, Place, Variable
 from ..common.refusals import Refused
@@ -22,20 +23,27 @@ OUTSIDE: Object = (None, (), False)
 
 @dataclass
 class Effects:
-    """The objects that are read and written, each with whether a called function does it."""
+    """The objects that are read and written, each with whether a called function does it; `elements` are those of arrays that an
+    expression itself names, each with how, and whether it is written."""
 
     reads: dict[Object, bool] = field(default_factory=dict)
     writes: dict[Object, bool] = field(default_factory=dict)
+    elements: list[tuple[Object, tree.Node, bool]] = field(default_factory=list)
 
     def add(self, other: "Effects", called: bool = False) -> None:
         """Adds what another one has, as done by a call with `called`."""
         for ours, theirs in ((self.reads, other.reads), (self.writes, other.writes)):
             for one, by_call in theirs.items():
                 ours[one] = ours.get(one, False) or by_call or called
+        self.elements += other.elements
 
     def clash(self, other: "Effects") -> Optional[Object]:
-        """An object for which the order of both matters. Elements that plain expressions name are different ones, or C
+        """An object for which the order of both matters. Elements that plain expressions name otherwise are different ones, or C
         gives the whole no meaning."""
+        for one, node, written in self.elements:
+            for two, named, too in other.elements:
+                if (written or too) and one == two and alike(node, named):
+                    return one
         for a, b in ((self, other), (other, self)):
             for one, by_call in a.writes.items():
                 for theirs in (b.reads, b.writes):
@@ -52,12 +60,51 @@ def may_be(one: Object, two: Object) -> bool:
     return len(pair) == 2 and pair[0] is not pair[1] and "parameter" in (pair[0].home, pair[1].home)
 
 
+def alike(one: tree.Node, other: tree.Node) -> bool:
+    """Whether two expressions without effects are the same, so that they name one object."""
+    if isinstance(one, (tree.ID, tree.Constant)):
+        return isinstance(other, type(one)) and printed(one) == printed(other)
+    if not isinstance(one, (tree.StructRef, tree.ArrayRef, tree.UnaryOp, tree.BinaryOp)) or type(one) is not type(
+        other
+    ):
+        return False
+    pairs = list(zip(one.parts(), other.parts()))
+    return sign(one) == sign(other) and sign(one) not in STEPS and all(alike(mine, theirs) for mine, theirs in pairs)
+
+
+def sign(node: tree.Node) -> str:
+    """The operator of an expression."""
+    if isinstance(node, (tree.UnaryOp, tree.BinaryOp)):
+        return node.op
+    return node.type if isinstance(node, tree.StructRef) else ""
+
+
 def objects(place: Place) -> list[Object]:
-    """The integers of a place as objects."""
+    """The integers of a place as objects; bytes are one."""
+    region = place.region.root() if place.region is not None else None
+    if region is not None and region.raw and place.variable is region.column:
+        return [(place.variable, (), True)]
     inner = bool(place.indexes) or place.variable.home == "column"
     if place.view is not None:
         return [(place.variable, place.path, inner)]
-    return [(place.variable, place.path + leaf.path, inner or bool(leaf.dims)) for leaf in leaves(place.type)]
+    found = [(where(place, leaf.path), leaf) for leaf in leaves(place.type)]
+    return [(*at, inner or bool(leaf.dims) or at[0].home == "column") for at, leaf in found]
+
+
+def where(place: Place, path: tuple[str, ...]) -> tuple[Variable, tuple[str, ...]]:
+    """The variable in which a member of a place lies, and the members that lead to it there: some have columns of their own."""
+    variable, inside, region = place.variable, place.path, place.region
+    for name in path:
+        region = region.root().members.get(name) if region is not None else None
+        column = region.root().column if region is not None else None
+        variable, inside = (variable, (*inside, name)) if column is None else (column, ())
+    return variable, inside
+
+
+def in_pairs(place: Place, parameter: Variable) -> list[tuple[Object, Object]]:
+    """The integers of an object that is handed over, each with the parameter's that stands for it."""
+    own, theirs = objects(place), objects(Place(parameter, (), (), pointee(parameter)))
+    return list(zip(own if len(own) > 1 else own * len(theirs), theirs))
 
 
 class Effected:
@@ -169,6 +216,7 @@ class Effected:
         else:
             for child in node.parts():
                 found.add(self.of(child))
+            found.elements = found.elements if isinstance(node, tree.Expression) else []
             init = node.init if isinstance(node, tree.Decl) else None
             variable = self.names.meaning.get(node) if init is not None else None
             if isinstance(variable, Variable) and variable.home == "local":
@@ -191,6 +239,9 @@ class Effected:
             found.add(self.of(place.view.index))
         if place.variable.is_input:
             found.writes[OUTSIDE] = True
+        found.elements += [
+            (one, node, written) for one in objects(place) if one[2] and isinstance(place.type, (Int, Pointer))
+        ]
         if read:
             found.add(Effects({one: False for one in objects(place)}))
         if written:
@@ -214,12 +265,10 @@ class Effected:
         if self.choosers.targets(function) is not None:
             found.add(self.of(node.name))
         summary = self.summary_of(function)
-        shared = Effects(
-            *(
-                {one: True for one in part if one[0] is None or one[0].shared}
-                for part in (summary.reads, summary.writes)
-            )
-        )
+        reads, writes = [
+            {one: True for one in part if one[0] is None or one[0].shared} for part in (summary.reads, summary.writes)
+        ]
+        shared = Effects(reads, writes)
         found.add(shared)
         for argument, parameter in zip(arguments(node), function.parameters):
             if isinstance(parameter.type, Int) or parameter.binding == "pointer":
@@ -251,9 +300,7 @@ class Effected:
             return
         for index, _ in place.indexes:
             found.add(self.of(index))
-        whole = objects(place)
-        own = objects(Place(parameter, (), (), pointee(parameter)))
-        for mine, theirs in zip(whole, own):
+        for mine, theirs in in_pairs(place, parameter):
             lent = isinstance(parameter.type, Array)
             if not lent or theirs in summary.reads:
                 found.reads[mine] = found.reads.get(mine, False) or not isinstance(parameter.type, Struct)

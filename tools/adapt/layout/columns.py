@@ -120,7 +120,10 @@ class Columns:
         """Makes the variable of a region's column."""
         coord = region.objects[0].coord if region.objects else None
         made = Variable(alone.name if alone else "r", Array(region.type, count), coord, "column", defined=True)
-        made.const = bool(region.objects) and all(one.const for one in region.objects) and not self.inner.get(region)
+        kept = [
+            one.const and one.home not in ("local", "parameter") for one in region.objects
+        ]  # (those get their values anew)
+        made.const = bool(kept) and all(kept) and not self.inner.get(region)
         region.column = made
 
     def check_locals(self) -> None:

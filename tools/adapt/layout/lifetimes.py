@@ -117,10 +117,11 @@ class Lifetimes:
     def listed(self, variable: Variable) -> None:
         """Gathers those of a list of first values."""
         try:
-            given = filled(self.names.constants, variable.type, variable.init).given
+            made = filled(self.names.constants, variable.type, variable.init)
         except Refused:
             return
-        for (path, _), source in given.items():
+        parts = [*made.given.items(), *((spot, source) for spot, _, source in made.wholes)]
+        for (path, _), source in parts:
             of, region = inner_region(self.points.home(variable), variable.type, path)
             self.put(of, region, source, variable.coord)
 
@@ -219,8 +220,10 @@ class Lifetimes:
             return [Result(one, path) for one in self.targets(node)]
         if isinstance(node, tree.CompoundLiteral):
             of = self.names.types.get(node.type, kinds.VOID)
-            given = filled(self.names.constants, of, node.init).given
-            return [one for (own, _), source in given.items() if own == path for one in self.sources(source)]
+            made = filled(self.names.constants, of, node.init)
+            found = [one for (own, _), source in made.given.items() if own == path for one in self.sources(source)]
+            wholes = [(own, source) for (own, _), _, source in made.wholes if path[: len(own)] == own]
+            return found + [one for own, source in wholes for one in self.of_member(source, path[len(own) :])]
         of, region = self.points.place(node)
         return [Inside(inner_region(region, of, path)[1])]
 

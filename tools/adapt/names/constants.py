@@ -10,6 +10,7 @@ from ..common.kinds import Array, Int, Pointer, Signature, Struct, Type, fit
 from ..common.objects import Enumerator, Function, Variable
 from ..common.refusals import Refused
 from . import unions
+from .listed import Listed
 
 if TYPE_CHECKING:
     from .names import Names
@@ -188,6 +189,13 @@ class Constants:
     def size_of(self, node: tree.Expression) -> int:
         """What `sizeof` gives of a type or an expression. The number is one of bytes (6.5.3.4p2). Raises Refused
         where it isn't known."""
+        known = self.known_size(node)
+        if known is None:
+            raise Refused(node.coord, "the size isn't known", "write its number")
+        return known
+
+    def known_size(self, node: tree.Expression) -> Optional[int]:
+        """The same; None where it isn't known."""
         meaning = self.names.meaning.get(node) if isinstance(node, tree.ID) else None
         if (
             isinstance(meaning, Variable)
@@ -196,10 +204,7 @@ class Constants:
         ):
             return 8
         of = self.names.types.get(node) if isinstance(node, tree.Typename) else self.type_of(node)
-        known = kinds.size(of) if of is not None else None
-        if known is None:
-            raise Refused(node.coord, "the size isn't known", "write its number")
-        return known
+        return kinds.size(of) if of is not None else None
 
     def offset(self, node: tree.Expression, of: Type) -> tuple[int, Type]:
         """Where a member lies in a struct, and its type (7.19p3). Raises Refused where it isn't known."""
@@ -232,22 +237,13 @@ class Constants:
 
     def length_of(self, init: tree.Expression, of: Type) -> int:
         """The length of an array that has none of its own, by its initialiser (6.7.9p22). The number is one of
-        elements. Raises Refused for elements without braces of their own, unless they are integers."""
-        if isinstance(init, tree.Constant):
-            return len(codes(init.value)) + 1
-        at, most = 0, 0
-        items = init.exprs or [] if isinstance(init, tree.InitList) else []
-        braced = all(isinstance(one, (tree.InitList, tree.NamedInitializer)) for one in items)
-        if not braced and not isinstance(of, (Int, Pointer)):
-            raise Refused(
-                init.coord, "an array without a length whose values have no braces of their own", "give its length"
-            )
-        for one in items:
-            if isinstance(one, tree.NamedInitializer):
-                at = self.value(one.name[0]) or 0
-            at += 1
-            most = max(most, at)
-        return most
+        elements. Raises Refused where the list doesn't fit such elements."""
+        return Listed(self, Array(of, None), init).length
+
+    @staticmethod
+    def characters(node: tree.Constant) -> list[int]:
+        """The values of a string's elements, with its 0 (6.4.5p6)."""
+        return codes(node.value) + [0]
 
     def value(self, node: tree.Expression) -> Optional[int]:
         """The value of a constant expression; None where it is none."""
@@ -280,7 +276,8 @@ class Constants:
     def known_unary(self, node: tree.UnaryOp) -> Optional[tuple[int, Int]]:
         """The same of a unary expression."""
         if node.op == "sizeof":
-            return self.size_of(node.expr), kinds.SIZE
+            known = self.known_size(node.expr)
+            return None if known is None else (known, kinds.SIZE)
         one = self.known(node.expr)
         if one is None or node.op not in "+-~!":
             return None

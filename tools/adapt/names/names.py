@@ -113,13 +113,13 @@ class Names:
             if isinstance(made.type, Array) and made.type.length is None:
                 made.type = of
         else:
-            const = "const" in (node.quals or []) or "const" in self.quals(node.type)
+            const = "const" in self.quals(node.type)
             made = Variable(name, of, node.coord, home, function=self.function, const=const, unit=self.current)
             made.number = len(self.items)
             self.variables.append(made)
             if home == "file":
                 self.linked[key] = made
-        made.volatile = made.volatile or "volatile" in (node.quals or []) or "volatile" in self.quals(node.type)
+        made.volatile = made.volatile or "volatile" in self.quals(node.type)
         made.defined = made.defined or "extern" not in node.storage or node.init is not None
         self.scope[name] = made
         if isinstance(node.init, tree.InitList):

@@ -299,6 +299,8 @@ class PointsTo(Unification):
             for name in path:
                 part = kinds.element(kinds.member(part, name))
             self.tried(node, part)
+        for _, whole, node in made.wholes:
+            self.tried(node, whole)
 
     def tried(self, node: tree.Expression, to: Type) -> None:
         """A value becomes one of a type; what is refused in it is told where it is written."""

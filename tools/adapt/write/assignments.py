@@ -10,7 +10,7 @@ from ..common.objects import Place, Variable
 from ..common.output import unmarked
 from ..common.refusals import Refused
 from ..common.tree import walk
-from ..effects.effects import STEPS
+from ..effects.effects import STEPS, alike
 from ..names.constants import LOGICAL
 from ..names.ranges import within
 from . import statement_exprs
@@ -130,9 +130,10 @@ class Assignments(Component):
     def not_twice(self, node: tree.Expression, place: Place, value: tree.Expression) -> None:
         """An object that isn't an element may not be assigned once more by the value. Raises Refused where it is
         (6.5p2)."""
-        one = (place.variable, place.path, bool(place.indexes))
-        writes = self.writer.effected.of(value).writes
-        if not one[2] and one in writes and not writes[one]:
+        one, effects = (place.variable, place.path, bool(place.indexes)), self.writer.effected.of(value)
+        writes, target = effects.writes, node.lvalue if isinstance(node, tree.Assignment) else node
+        again = any(written and alike(target, named) for _, named, written in effects.elements)
+        if again or (not one[2] and one in writes and not writes[one]):
             raise Refused(
                 node.coord,
                 f"{place.variable.name} is assigned twice, in an order that C leaves open",

@@ -12,7 +12,7 @@ from ..common import kinds, tree
 from ..common.kinds import INDEX, Int, Pointer, Struct
 from ..common.objects import Function, Place, Variable
 from ..common.refusals import Refused
-from ..effects.effects import Object, may_be, objects, pointee
+from ..effects.effects import Object, in_pairs, may_be, objects, pointee
 from ..expand.library import OUTPUT
 from ..names.constants import is_offset
 from ..points_to.heap import heap_call
@@ -107,8 +107,9 @@ class Calls(Component):
             texts.extend(parts[name].text for name in parameter.type.region.parts())
         elif isinstance(parameter.binding, Place):
             return
-        elif isinstance(parameter.type, Struct) and not isinstance(
-            argument, (tree.ID, tree.StructRef, tree.ArrayRef, tree.UnaryOp)
+        elif isinstance(parameter.type, Struct) and (
+            not isinstance(argument, (tree.ID, tree.StructRef, tree.ArrayRef, tree.UnaryOp))
+            or self.is_changed(parameter, function)
         ):
             local = Variable("whole", parameter.type, argument.coord, "local", out=self.writer.spelling.fresh("whole"))
             place = Place(local, (), (), parameter.type)
@@ -124,6 +125,13 @@ class Calls(Component):
             for leaf, elements in self.writer.elements.integers(place, index):
                 if leaf.path in back:
                     after.append(f"{elements[0]} = {self.writer.spelling.leaf(own, leaf.path)};")
+
+    def is_changed(self, parameter: Variable, function: Function) -> bool:
+        """Whether a function writes an array of a struct that it gets by its value, so that a call hands over a copy."""
+        if not isinstance(parameter.type, Struct):
+            return False
+        own = objects(Place(parameter, (), (), parameter.type))
+        return any(one in self.writer.effected.summary_of(function).writes for one in own)
 
     def handed(self, place: Place, argument: tree.Expression, index: Optional[Value]) -> list[str]:
         """An object's integers as arguments, its arrays lent whole. Raises Refused for an array within an element of
@@ -160,19 +168,14 @@ class Calls(Component):
             ):
                 continue
             by_value = isinstance(parameter.type, Struct)
+            if by_value and self.is_changed(parameter, function):
+                continue  # (which gets a copy)
             try:
                 place = self.writer.effected.target(argument, parameter)
             except Refused:
                 continue
-            own = objects(Place(parameter, (), (), pointee(parameter)))
-            for mine, theirs in zip(objects(place), own):
+            for mine, theirs in in_pairs(place, parameter):
                 written = theirs in summary.writes
-                if by_value and written:
-                    raise Refused(
-                        node.coord,
-                        f"{function.name} writes an array of its parameter {parameter.name}",
-                        "copy it in the function first",
-                    )
                 copied = not theirs[2] or by_value
                 if not by_value or theirs[2]:
                     seen.append((mine, written, copied))

@@ -14,14 +14,6 @@ from .component import Component
 from .pointers import MOST
 
 
-def product(lengths: tuple[int, ...]) -> int:
-    """How many elements arrays of these lengths have."""
-    made = 1
-    for one in lengths:
-        made *= one
-    return made
-
-
 class ColumnItems(Component):
     """What stands of columns in front of all else, and at the begin of functions."""
 
@@ -75,7 +67,8 @@ class ColumnItems(Component):
             )
 
     def column_values(self) -> dict[tuple[Variable, Path], dict[int, str]]:
-        """The first values that lie in columns, by the column, the members and the number of the element."""
+        """The first values that lie in columns, by the column, the members and the number of the element. Raises Refused for a
+        struct as the first value of a part."""
         found: dict[tuple[Variable, Path], dict[int, str]] = {}
         for variable in [*self.writer.names.variables, *self.writer.columns.points.texts.values()]:
             if variable.init is None or variable.home in ("local", "parameter"):
@@ -86,20 +79,25 @@ class ColumnItems(Component):
             self.writer.names.refusals.go(variable.coord)
             with self.writer.names.refusals.gathered():
                 made = filled(self.writer.constants, variable.type, variable.init)
-                for leaf in kinds.leaves(variable.type):
-                    for at, node in made.of(leaf).items():
-                        spot = [at // product(leaf.dims[n + 1 :]) % length for n, length in enumerate(leaf.dims)]
-                        place = self.writer.pointer_effects.placed(variable, leaf.path, tuple(spot))
-                        index = self.writer.elements.index(place, False)
-                        if self.writer.places.is_raw(place) and index is not None and isinstance(place.type, Int):
-                            word = int(self.first_number(node, place.type))
-                            for byte in range(place.type.bits // 8):
-                                spot_at = int(index.text) + byte
-                                found.setdefault((place.variable, ()), {})[spot_at] = str(word >> (8 * byte) & 255)
-                        elif place.variable.home == "column" and index is not None:
-                            text = self.first_number(node, leaf.kind)
-                            found.setdefault((place.variable, place.path), {})[int(index.text)] = text
+                for _, _, source in made.wholes:
+                    raise Refused(source.coord, "a struct as the first value of a part", "give its members one by one")
+                for path, spot, node in made.integers():
+                    self.first_value(self.writer.pointer_effects.placed(variable, path, spot), node, found)
         return found
+
+    def first_value(
+        self, place: Place, node: tree.Expression, found: dict[tuple[Variable, Path], dict[int, str]]
+    ) -> None:
+        """Puts one first value where its integer lies, if that is in a column. Raises Refused where it is no constant."""
+        index, of = self.writer.elements.index(place, False), place.type
+        if index is None or not isinstance(of, Int):
+            return
+        if self.writer.places.is_raw(place):
+            word = int(self.first_number(node, of))
+            own = found.setdefault((place.variable, ()), {})
+            own.update({int(index.text) + byte: str(word >> (8 * byte) & 255) for byte in range(of.bits // 8)})
+        elif place.variable.home == "column":
+            found.setdefault((place.variable, place.path), {})[int(index.text)] = self.first_number(node, of)
 
     def first_number(self, node: tree.Expression, kind: Int) -> str:
         """A first value as a number. Raises Refused where it is no constant."""

@@ -36,9 +36,14 @@ class Elements(Component):
         meaning = self.writer.names.meaning.get(node) if isinstance(node, tree.ID) else None
         return isinstance(meaning, Variable) and meaning.is_bound
 
-    def index(self, place: Place, stable: bool, kept: bool = False) -> Optional[Value]:
+    def end_of(self, place: Place) -> Optional[tree.Expression]:
+        """The index of a place that may be its array's length where its address is taken (6.5.3.2p3): the last one that isn't 0."""
+        live = [node for node, _ in place.indexes if self.writer.constants.value(node) != 0]
+        return live[-1] if live else None
+
+    def index(self, place: Place, stable: bool, kept: bool = False, address: bool = False) -> Optional[Value]:
         """The number of a place's first element among those of its arrays; None where there are none. With `kept` it is a
-        constant or a variable of its own."""
+        constant or a variable of its own; with `address` it may be that behind an array."""
         if self.writer.places.is_raw(place):
             return self.writer.raw.index(place, stable or kept)
         column, tests = place.variable.home == "column", []
@@ -46,23 +51,24 @@ class Elements(Component):
         self.writer.order.unsequenced(
             place.indexes[0][0] if place.indexes else None, [node for node, _ in place.indexes]
         )
+        end = self.end_of(place) if address else None
         for node, length in place.shifted():
-            one = self.writer.expressions.value(node)
+            one, most = self.writer.expressions.value(node), length - (node is not end)
             if stable or (self.writer.check and len(place.indexes) > 1):
                 one = self.steady(node, one)
             known = self.writer.constants.value(node)
             inner = length > 1 and (whole is not None and (number(whole) != 0 or not self.alone(place, length)))
-            if inner and not self.writer.check and not self.below(node, length):
+            if inner and not self.writer.check and not self.below(node, most + 1):
                 one = self.steady_value(one)
                 wide = "unsigned long" if one.kind.bits == 64 else "unsigned int"
                 text = one.within(UNARY) if not one.kind.signed else f"({wide}) {one.within(UNARY)}"
-                tests.append(unmarked(f"{text} >= {length}"))
+                tests.append(unmarked(f"{text} >= {most + 1}"))
             if length == 1 or (whole is not None and whole.text.isdecimal()):
                 whole = plus(times(whole, length), one) if whole is not None else one
                 continue
-            if self.writer.check and len(place.indexes) > 1 and not (known is not None and 0 <= known < length):
+            if self.writer.check and len(place.indexes) > 1 and not (known is not None and 0 <= known <= most):
                 below = f"{one.within(8)} >= 0 && " if one.kind.signed else ""
-                self.writer.emit(f"assert({unmarked(below)}{unmarked(one.within(8))} < {length});")
+                self.writer.emit(f"assert({unmarked(below)}{unmarked(one.within(8))} < {most + 1});")
             if whole is None:
                 whole = one
             else:

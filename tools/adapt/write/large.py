@@ -11,7 +11,8 @@ from ..common.kinds import Int
 from ..common.output import unmarked
 from ..common.refusals import Refused
 
-MOST_ELEMENTS, MOST_CELLS = 1024, 16384
+MOST_ELEMENTS, MOST_CELLS, MOST_TOKENS = 1024, 16384, 256
+TOKEN, ROW_END = re.compile(r"\w+|[^\w\s]"), re.compile("[;,{}]")
 SETS = re.compile(r"\s*(=(?!=)|\+=|-=|\*=|/=|%=|&=|\|=|\^=|<<=|>>=|\+\+|--)")
 
 
@@ -94,9 +95,16 @@ class LargeArrays:
     # ---- accesses
 
     def rewritten(self, text: str) -> str:
-        """A text in which each access is a call."""
+        """A text in which each access is a call. A read at a constant may be what the call would give, where that leaves no row of
+        tokens too long for the profile."""
         if not self.known:
             return text
+        made = self.replaced(text, True)
+        fits = all(len(TOKEN.findall(row)) <= MOST_TOKENS for row in ROW_END.split(unmarked(made)))
+        return made if fits else self.replaced(text, False)
+
+    def replaced(self, text: str, short: bool) -> str:
+        """The text with calls; with `short` reads at constants have none."""
         words = re.compile(r"\b(" + "|".join(map(re.escape, self.known)) + r")\[")
         made: list[str] = []
         at = 0
@@ -106,13 +114,13 @@ class LargeArrays:
                 return "".join(made) + text[at:]
             one = self.known[found.group(1)]
             end = closed(text, found.end(), "]")
-            index = self.rewritten(text[found.end() : end])
+            index = self.replaced(text[found.end() : end], short)
             sets = SETS.match(text, end + 1)
             made.append(text[at : found.start()])
             at = end + 1
             if sets is None:
                 constant = unmarked(index).strip()
-                known = one.at is not None and constant.isdecimal()
+                known = short and constant.isdecimal()
                 made.append(one.at(int(constant)) if known and one.at else f"{one.reads}({index})")
                 continue
             op = sets.group(1)
@@ -120,7 +128,7 @@ class LargeArrays:
                 value, at = f"{one.reads}({index}) {op[0]} 1", sets.end()
             else:
                 at = ended(text, sets.end())
-                right = self.rewritten(text[sets.end() : at]).strip()
+                right = self.replaced(text[sets.end() : at], short).strip()
                 value = right if op == "=" else f"{one.reads}({index}) {op[:-1]} ({right})"
             made.append(f"{one.sets}({index}, {value})")
 

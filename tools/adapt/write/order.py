@@ -85,6 +85,8 @@ class Order(Component):
                 return False
             if heap_call(called) or changed(self.writer.places, node, called, self.writer.inputs):
                 return True
+            if any(self.writer.calls.is_changed(one, called) for one in called.parameters):
+                return True
             several = isinstance(called.result, kinds.Pointer) and len(called.result.region.parts()) > 1
             return several or bool(self.outs(called)) or isinstance(called.result, Struct)
         if is_no_object(node):

@@ -38,9 +38,11 @@ class PointerEffects(Component):
             return
         if node.op != "=":
             raise Refused(node.coord, "arithmetic with a pointer", "use + and -")
-        self.writer.order.unsequenced(node, [tree.ExprList([one for one, _ in place.indexes]), node.rvalue])
+        indexes = tree.ExprList([one for one, _ in place.indexes])
+        self.writer.order.unsequenced(node, [indexes, node.rvalue])
         self.writer.assignments.not_twice(node, place, node.rvalue)
-        target = self.writer.pointers.parts_at(place, self.writer.elements.index(place, True))
+        index = self.writer.elements.index(place, True, self.reads(indexes, place))
+        target = self.writer.pointers.parts_at(place, index)
         parts = self.writer.pointers.pointer(node.rvalue)
         self.set_parts(target, parts, self.reads(node.rvalue, place))
 

@@ -134,7 +134,9 @@ class Pointers(Component):
         if place.variable.home != "column" or place.path:
             raise Refused(None, f"the address of {place.variable.name}", "name the object itself")
         raw = self.writer.places.is_raw(place)
-        index = self.writer.raw.index(place, True, False) if raw else self.writer.elements.index(place, True)
+        index = (
+            self.writer.raw.index(place, True, False) if raw else self.writer.elements.index(place, True, False, True)
+        )
         assert index is not None
         begin = index
         if isinstance(around.type, Array):

@@ -4,12 +4,13 @@ union's members differ. An integer of more than a byte is read and set by two fu
 
 from dataclasses import replace
 from functools import partial
-from typing import TYPE_CHECKING, Optional
+from typing import TYPE_CHECKING, Union
 
+from ..bind.initialisers import Filled
 from ..bind.places import At
 from ..bind.values import PRIMARY, UNARY, Known, Value, number, plus, times
 from ..common import kinds, tree
-from ..common.kinds import BEGIN, END, Int
+from ..common.kinds import BEGIN, END, Int, Leaf
 from ..common.objects import Place
 from ..names.ranges import SMALL, Range, within
 from .component import Component
@@ -21,11 +22,11 @@ if TYPE_CHECKING:
 WIDEST: Range = -(1 << 63), 1 << 64
 
 
-def whole(column: str, kind: Int, begin: Optional[int] = None) -> str:
-    """The text of an integer out of its bytes, which begin at `i`, or at a number."""
+def whole(column: str, kind: Int, begin: Union[int, str]) -> str:
+    """The text of an integer out of its bytes, which begin at a number, or at what a name says."""
     word, parts = "unsigned long" if kind.bits == 64 else "unsigned int", []
     for at in range(kind.bits // 8):
-        index = str(begin + at) if begin is not None else f"i + {at}" if at else "i"
+        index = str(begin + at) if isinstance(begin, int) else f"{begin} + {at}" if at else begin
         parts.append(f"({word}) {column}[{index}]{f' << {8 * at}' if at else ''}")
     return f"({kind.text}) ({' | '.join(parts)})"
 
@@ -60,15 +61,46 @@ class Raw(Component):
     def functions(column: str, kind: Int, reads: str, sets: str, const: bool) -> str:
         """The functions that read and set an integer of several bytes."""
         count = kind.bits // 8
-        text = f"static {kind.text} {reads}(int i) {{ return {whole(column, kind)}; }}"
+        i, v = ("at" if column == "i" else "i"), ("value" if column == "v" else "v")
+        text = f"static {kind.text} {reads}(int {i}) {{ return {whole(column, kind, i)}; }}"
         if const:
             return text
-        steps = [f"{column}[i{f' + {at}' if at else ''}] = v{f' >> {8 * at}' if at else ''};" for at in range(count)]
-        return f"{text} static void {sets}(int i, {kind.text} v) {{ {' '.join(steps)} }}"
+        steps = [
+            f"{column}[{i}{f' + {at}' if at else ''}] = {v}{f' >> {8 * at}' if at else ''};" for at in range(count)
+        ]
+        return f"{text} static void {sets}(int {i}, {kind.text} {v}) {{ {' '.join(steps)} }}"
 
     def front(self) -> list[str]:
         """What stands in front of all else."""
         return list(self.texts.values())
+
+    # ---- first values
+
+    def is_bytes_alone(self, place: Place) -> bool:
+        """Whether an object has a form as its bytes alone, since a union in it has no other one."""
+        return self.writer.places.is_raw(place) and kinds.is_mixed(place.type)
+
+    def first_bytes(self, made: Filled) -> list[str]:
+        """The bytes that an object's first values give it; those without any are 0."""
+        found = ["0"] * (kinds.size(made.of_type) or 0)
+        for spot, node in made.given.items():
+            kind, begin = made.types[spot], made.offset(spot)
+            assert isinstance(kind, Int)
+            known = self.writer.constants.value(node)
+            if known is None:
+                value = self.writer.conversions.converted(self.writer.expressions.value(node), kind)
+                name = self.writer.temporary(kind, value.text)
+                texts = [f"{name} >> {8 * at}" if at else name for at in range(kind.bits // 8)]
+            else:
+                texts = [str(kinds.fit(known, kind) >> 8 * at & 255) for at in range(kind.bits // 8)]
+            found[begin : begin + len(texts)] = texts
+        return found
+
+    def put_bytes(self, integers: list[tuple[Leaf, list[str]]], values: list[str]) -> None:
+        """Writes that an object's bytes get values."""
+        for _, texts in integers:
+            for text, value in zip(texts, values):
+                self.writer.emit(f"{text} = {value};")
 
     # ---- indexes
 

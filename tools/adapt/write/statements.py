@@ -139,11 +139,16 @@ class Statements(Component):
         Raises Refused for more than 256 of them."""
         self.writer.calls.declared(variable)
         made = filled(self.writer.constants, variable.type, init)
-        self.writer.order.unsequenced(init, list(made.given.values()))
+        self.writer.order.unsequenced(init, made.expressions)
         place = self.writer.places.of_variable(variable)
         if sum(leaf.count for leaf in kinds.leaves(variable.type)) > MOST_COPIED:
             raise Refused(init.coord, f"{variable.name} has more than {MOST_COPIED} first values", "make it static")
-        for leaf, texts in self.writer.pointer_effects.each_integer(place, None):
+        integers = self.writer.pointer_effects.each_integer(place, None)
+        if self.writer.raw.is_bytes_alone(place):
+            values = self.writer.raw.first_bytes(made)
+            self.writer.raw.put_bytes(integers, values)
+            integers = []
+        for leaf, texts in integers:
             given = made.of(leaf)
             for at, text in enumerate(texts):
                 value = (
@@ -158,19 +163,15 @@ class Statements(Component):
     def initialised(self, variable: Variable, init: tree.Expression) -> None:
         """Writes a local's declaration with its first values; what has none is 0."""
         made = filled(self.writer.constants, variable.type, init)
-        self.writer.order.unsequenced(init, list(made.given.values()))
+        self.writer.order.unsequenced(init, made.expressions)
         for leaf in kinds.leaves(variable.type):
             texts = made.texts(
                 leaf, lambda one: self.writer.conversions.converted(self.writer.expressions.value(one), leaf.kind).text
             )
             value = f"[{leaf.count}] = {{{', '.join(texts)}}}" if leaf.dims else f" = {texts[0]}"
             self.writer.declare(f"{leaf.kind.text} {self.writer.spelling.leaf(variable, leaf.path)}{value};")
-        for (path, spot), of, source in made.wholes:
-            indexes = tuple(
-                (tree.Constant("int", str(one)), length)
-                for one, length in zip(spot, next(kinds.leaves(variable.type)).dims)
-            )
-            self.writer.wholes.assign_whole(Place(variable, path, indexes, of), source, source)
+        for (path, spot), _, source in made.wholes:
+            self.writer.wholes.assign_whole(self.writer.pointer_effects.placed(variable, path, spot), source, source)
 
     # ---- branches
 

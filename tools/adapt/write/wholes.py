@@ -36,7 +36,7 @@ class Wholes(Component):
         if sum(leaf.count for leaf in kinds.leaves(target.type)) > MOST_COPIED:
             raise Refused(node.coord, f"a struct of more than {MOST_COPIED} integers is copied", "copy what is needed")
         self.writer.order.unsequenced(node, [tree.ExprList([one for one, _ in target.indexes]), source])
-        index = self.writer.elements.index(target, True)
+        index = self.writer.elements.index(target, True, self.is_read(target, target))
         if isinstance(source, tree.CompoundLiteral):
             values = self.literal(target, source)
         else:
@@ -84,8 +84,12 @@ class Wholes(Component):
             self.assign_whole(self.writer.places.place(source.lvalue), source.rvalue, source)
             source = source.lvalue
         place = self.writer.places.place(source)
+        return place, self.writer.elements.index(place, True, self.is_read(place, target))
+
+    def is_read(self, place: Place, target: Place) -> bool:
+        """Whether the indexes of a place may read what is assigned."""
         reads = self.writer.effected.of(tree.ExprList([one for one, _ in place.indexes])).reads
-        return place, self.writer.elements.index(place, True, any(one in reads for one in objects(target)))
+        return any(one in reads for one in objects(target))
 
     def literal(self, target: Place, source: tree.CompoundLiteral) -> list[tuple[Leaf, list[str]]]:
         """The values of a compound literal, kept where the target itself may be among what they read. Raises Refused
@@ -93,7 +97,10 @@ class Wholes(Component):
         made = filled(self.writer.constants, target.type, source.init)
         if made.wholes:
             raise Refused(source.coord, "a struct within a compound literal", "give its members one by one")
-        self.writer.order.unsequenced(source, list(made.given.values()))
+        self.writer.order.unsequenced(source, made.expressions)
+        if self.writer.raw.is_bytes_alone(target):
+            values = self.writer.raw.first_bytes(made)
+            return [(Leaf((), (len(values),), kinds.Int(8, False, "")), values)]
         reads = self.writer.effected.of(source)
         apart = not any(one in reads.reads for one in objects(target)) and not any(reads.reads.values())
         found = []
