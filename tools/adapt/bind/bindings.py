@@ -75,7 +75,7 @@ class Bindings:
                 except Refused:
                     failed.add(one)
             if len(left) == len(waiting):
-                if left[0] in lent:
+                if left[0] in lent or self.is_void(left[0]):
                     failed.add(left[0])
                 else:
                     left.pop(0).binding = "copy"
@@ -200,7 +200,7 @@ class Bindings:
         return found
 
     def bound(self, parameter: Variable, lent: set[Variable]) -> bool:
-        """Binds a parameter where all that its calls hand over is known."""
+        """Binds a parameter where all that its calls hand over is known. Raises Refused where it can't stand for an object."""
         function, at = self.of[parameter]
         targets = []
         for _, call in function.calls:
@@ -217,8 +217,15 @@ class Bindings:
         one = targets[0] if targets else None
         same = one and all((t.variable, t.path) == (one.variable, one.path) and not t.indexes for t in targets)
         known = one and one.variable.home == "file" and one.variable.number < function.number
+        if not (same and known) and self.is_void(parameter):
+            raise Refused(parameter.coord, "an object whose type isn't known", "use a pointer to its type")
         parameter.binding = one if same and known else "copy"
         return True
+
+    @staticmethod
+    def is_void(parameter: Variable) -> bool:
+        """Whether a parameter is a pointer to void, so that no integers go in and out in its place."""
+        return kinds.behind(parameter.type) == VOID
 
     def target(self, given: tree.Expression, lent: bool) -> Place:
         """What an argument hands over; what a pointer points to is an object of its own here."""

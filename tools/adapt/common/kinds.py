@@ -10,7 +10,8 @@ from .tree import Coord
 if TYPE_CHECKING:
     from .objects import Function, Variable
 
-NIL = -16384  # a null pointer: below each index, also with the largest index of the profile added
+MOST_INDEX = 32767  # no index of a column is greater, so no product of one with a stride wraps
+NIL = -MOST_INDEX - 1  # a null pointer: below each index, also with the largest index added
 INDEX, END, BEGIN = "@p", "@e", "@b"  # what a pointer is written as; they stand in paths behind the members
 Fault = tuple[Optional[Coord], str, str]  # where something can't be written, why, and what to do
 
@@ -65,6 +66,10 @@ class Struct:
         if self.carrier and self.carrier[0] == name:
             return self.carrier[1]
         return dict(self.members or [])[name]
+
+    def has(self, name: str) -> bool:
+        """Whether it has a member, or is written as it."""
+        return name in dict(self.members or []) or bool(self.carrier and self.carrier[0] == name)
 
     def is_parts(self) -> bool:
         """Whether a union's members are parts of one integer."""
@@ -257,6 +262,11 @@ def fit(value: int, kind: Int) -> int:
     return value - (1 << kind.bits) if kind.signed and value >> (kind.bits - 1) else value
 
 
+def is_flexible(of: Type) -> bool:
+    """Whether the last member of a struct is a flexible array member if it has this type: it takes no bytes (6.7.2.1p18)."""
+    return isinstance(of, Array) and of.length is None
+
+
 def has_bytes(of: Type) -> bool:
     """Whether an object of the type may stand as its bytes: it has a known size, and no pointers or bit-fields."""
     if isinstance(of, Array):
@@ -264,7 +274,8 @@ def has_bytes(of: Type) -> bool:
     if isinstance(of, Struct):
         if of.members is None or of.fault or any(width is not None for _, _, width in of.declared):
             return False
-        return all(has_bytes(member) for _, member in of.members)
+        held = of.members[:-1] if of.members and is_flexible(of.members[-1][1]) else of.members
+        return all(has_bytes(member) for _, member in held)
     return isinstance(of, Int) and not of.width or (isinstance(of, Other) and of != VOID and of.bytes is not None)
 
 
@@ -314,6 +325,8 @@ def laid_out(of: Struct) -> tuple[dict[str, int], Optional[int]]:
         return {name: 0 for name, _, _ in of.declared}, max(known, default=0) if len(known) == len(sizes) else None
     for name, member, width in of.declared:
         one, step = size(member), alignment(member) * 8
+        if is_flexible(member) and name == of.declared[-1][0]:
+            one = 0
         if one is None:
             return {}, None
         if width is None or width == 0 or at % (one * 8) + width > one * 8:

@@ -4,6 +4,7 @@ they are. One with pointers is put there anew for each call."""
 import copy
 import os
 from functools import cache
+from itertools import count
 from typing import Optional
 
 from ..common import tree
@@ -11,6 +12,7 @@ from ..common.folders import MODELS
 from ..common.parsing import parsed
 from ..common.tree import walk
 from ..common.unit import Unit
+from . import formats
 from .sorting import SORTING, Sorted, written_for
 
 FILES = ("ctype.c", "stdlib.c", "builtin.c", "sort.c")
@@ -71,7 +73,7 @@ class Library:
         nodes = [node for one in trees for node in walk(one)]
         own = {node.decl.name for node in nodes if isinstance(node, tree.FuncDef)}
         own |= {node.name for node in nodes if isinstance(node, tree.Decl) and not self.is_function(node)}
-        self.missing, self.names = set(models()) - own, own | self.declared
+        self.missing, self.names = (set(models()) | set(formats.BEFORE)) - own, own | self.declared
         self.added: list[tree.Decl | tree.FuncDef] = []
         self.wanted: dict[str, Optional[tree.FuncDef]] = {}
         self.sorted: list[Sorted] = []
@@ -112,6 +114,9 @@ class Library:
             if isinstance(node, tree.ID) and node.name in SORTING:
                 if node in called and node.name in self.missing:
                     self.sort(called[node], node)
+            elif isinstance(node, tree.ID) and node.name in formats.BEFORE:
+                if node in called and node.name in self.missing:
+                    self.format(called[node], node)
             elif (
                 isinstance(node, tree.ID)
                 and node.name in self.missing
@@ -127,6 +132,19 @@ class Library:
                 self.names.add(node.name)
                 self.added.insert(0, copy.deepcopy(known()[node.name]))
 
+    def format(self, call: tree.FuncCall, own: tree.ID) -> None:
+        """Puts the model of a call of sprintf or snprintf in front, where its format is known."""
+        name = self.free(own.name)
+        made = formats.written_for(call, own.name, name)
+        if made is not None:
+            self.taken.add(name)
+            own.name = name
+            self.added.append(made)
+
+    def free(self, stem: str) -> str:
+        """A name for a model that nothing else has."""
+        return next(name for name in (f"{stem}_{number}" for number in count(1)) if name not in self.taken)
+
     def declare(self, nodes: list[tree.Node]) -> None:
         """Declares what a model uses."""
         for one in nodes:
@@ -136,10 +154,7 @@ class Library:
 
     def sort(self, call: tree.FuncCall, own: tree.ID) -> None:
         """Puts the model of a call of qsort or bsearch, by its name there, behind its unit, and declares it in front."""
-        number, name = 1, f"{own.name}_1"
-        while name in self.taken:
-            number += 1
-            name = f"{own.name}_{number}"
+        name = self.free(own.name)
         self.taken.add(name)
         items, path = self.unit.tree.ext, self.unit.path
         functions = {one.decl.name or "" for one in items if isinstance(one, tree.FuncDef)}

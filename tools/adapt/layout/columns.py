@@ -4,7 +4,7 @@ from typing import Optional
 
 from ..bind.places import Owner
 from ..common import kinds, tree
-from ..common.kinds import Array, Path, Pointer, Region, Struct, Type
+from ..common.kinds import MOST_INDEX, Array, Path, Pointer, Region, Struct, Type
 from ..common.learned import HeapCall, Learned
 from ..common.objects import Function, Variable
 from ..common.refusals import Refused
@@ -65,12 +65,14 @@ class Columns:
     # ---- layout
 
     def lay_out(self, region: Region) -> int:
-        """Gives each object of a region its begin; how many elements there are. Raises Refused for an object that
-        lies within itself by a pointer."""
+        """Gives each object of a region its begin; how many elements there are. Tells of an object that lies within itself by a
+        pointer."""
         if region in self.counts:
             return self.counts[region]
         if region in self.open:
-            raise Refused(None, "an object that lies within itself by a pointer", "use objects apart")
+            at = next((one.coord for one in self.owned(region) if one.coord is not None), None)
+            self.names.refusals.add(at, "an object that lies within itself by a pointer", "use objects apart")
+            return 0
         self.open.add(region)
         if region.elem is None or region.elem == kinds.VOID or self.points.is_open(region.elem):
             region.elem = kinds.Int(8, False, "unsigned char")
@@ -92,14 +94,25 @@ class Columns:
         self.column(region, end, alone)
         return end
 
+    def owned(self, region: Region) -> list[Variable]:
+        """The objects of a region, and those in whose members it lies."""
+        found, rest = list[Variable](), [region]
+        for one in rest:
+            found += one.objects
+            rest += [outer for outer, _ in self.inner.get(one, []) if outer not in rest]
+        return found
+
     def pool(self, owner: Variable, region: Region) -> tuple[int, int]:
-        """How many elements the memory of a call of malloc has, and how many objects."""
+        """How many elements the memory of a call of malloc has, and how many objects. It has fewer slots where its integers would
+        otherwise be too many for one array."""
         pool, size = self.pools[owner], kinds.size(region.type) or 1
         try:
             asked = bytes_asked(self.names.constants, pool.node, pool.called)
         except Refused:
             asked = None  # (told where it is written)
         pool.count = self.names.pool[1] if asked is None else max(1, asked // size)
+        largest = max((leaf.count for leaf in kinds.leaves(region.type)), default=1) * pool.count
+        pool.slots = max(1, min(pool.slots, (MOST_INDEX + 1) // largest))
         owner.type = Array(region.type, pool.slots * pool.count)
         return pool.slots * pool.count, pool.slots
 
@@ -109,7 +122,7 @@ class Columns:
             whole = owner.type.to if owner.is_bound and isinstance(owner.type, Pointer) else owner.type
             return self.points.count(whole, self.points.home(owner)), 1
         outer, name = owner
-        if not isinstance(outer.elem, Struct):
+        if not isinstance(outer.elem, Struct) or not outer.elem.has(name):
             return 0, 0  # (objects of two types, which is a fault where one is used)
         of = outer.elem.type_of(name)
         owners: list[Owner] = [*outer.objects, *self.inner.get(outer, [])]

@@ -4,14 +4,14 @@ all events needs no test whether it wraps."""
 from typing import Optional, Union
 
 from ..common import kinds, tree
-from ..common.kinds import NIL, Int
+from ..common.kinds import MOST_INDEX, NIL, Int
 from ..common.objects import Variable
 from ..common.tree import walk
 from .constants import COMPARED, LOGICAL, SHIFTS
 from .names import Names
 
 Range = tuple[int, int]  # the least and the greatest number
-SMALL: Range = 2 * NIL, -2 * NIL - 1  # numbers by which no index wraps, and null comes to none below 16,383
+SMALL: Range = NIL, MOST_INDEX  # numbers by which no index wraps, and null comes to none
 
 
 def of_kind(kind: Int) -> Range:

@@ -10,7 +10,7 @@ from ..common.objects import Function, Variable
 from ..common.refusals import Refused
 from ..names.constants import is_offset
 from .heap import TAKES
-from .models import model_of
+from .models import WHOLE, model_of
 
 if TYPE_CHECKING:
     from .points_to import PointsTo
@@ -117,11 +117,12 @@ def handed_by_pointer(points: "PointsTo", done: set[tree.Node]) -> None:
 
 def of_model(points: "PointsTo", node: tree.FuncCall) -> None:
     """A call of a library's function goes through the objects of its pointers, and may copy from one to the other."""
-    found = [points.value(one) for one in arguments(node) if not points.is_null(one)]
+    model = model_of(points.names.meaning.get(node))
+    whole = model is not None and model.name in WHOLE
+    found = [bare(points, one) if whole else points.value(one) for one in arguments(node) if not points.is_null(one)]
     regions = [of.region.root() for of in found if isinstance(of, Pointer)]
     for region in regions:
         region.pointed = region.moved = True
-    model = model_of(points.names.meaning.get(node))
     if model is not None and len(arguments(node)) == len(model.parameters):
         points.modelled.append((node, model))
     if len(regions) == 2:
@@ -145,6 +146,20 @@ def called_heap(points: "PointsTo", node: tree.FuncCall, name: str) -> None:
     """A call of the heap. Raises Refused where it is declared otherwise than in the library."""
     if len(arguments(node)) != TAKES[name]:
         raise Refused(node.coord, f"{name} is declared otherwise than in the library", "declare it as stdlib.h does")
-    of = points.value(arguments(node)[0] if name == "free" else node)
+    of = bare(points, arguments(node)[0]) if name == "free" else points.value(node)
     if isinstance(of, Pointer):
         of.region.root().freed = of.region.root().freed or name == "free"
+
+
+def bare(points: "PointsTo", node: tree.Expression) -> Type:
+    """What is handed to a parameter that is a pointer to void, of free and of functions that take whole elements. A cast to another
+    pointer there, as in `free((char *) p)`, changes nothing (6.3.2.3p1)."""
+    casts = list[tree.Cast]()
+    while isinstance(node, tree.Cast) and isinstance(points.constants.type_of(node), Pointer):
+        casts.append(node)
+        node = node.expr
+    of = points.value(node)
+    if not isinstance(of, Pointer):
+        return points.value(casts[0]) if casts else of
+    points.values.update((one, of) for one in casts)
+    return of

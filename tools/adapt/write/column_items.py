@@ -4,14 +4,13 @@ import re
 from ..bind.bindings import key
 from ..bind.initialisers import Part, filled, none_of
 from ..common import kinds, tree
-from ..common.kinds import Int, Path, Pointer, Region
+from ..common.kinds import MOST_INDEX, Int, Path, Pointer, Region
 from ..common.objects import Function, Place, Variable
 from ..common.output import File, unmarked
 from ..common.refusals import Refused
 from ..effects.effects import pointee
 from .calls import MOST_ELEMENTS
 from .component import Component
-from .pointers import MOST
 
 
 class ColumnItems(Component):
@@ -49,8 +48,8 @@ class ColumnItems(Component):
             values = [none_of(leaf)] * leaf.count
             for at, text in given.get((column, leaf.path), {}).items():
                 values[at] = text
-            if leaf.count > MOST + 1:
-                advice = f"at most {MOST + 1}, of all objects together that one pointer meets"
+            if leaf.count > MOST_INDEX + 1:
+                advice = f"at most {MOST_INDEX + 1}, of all objects together that one pointer meets"
                 raise Refused(column.coord, f"{column.out} has {leaf.count} elements", advice)
             if leaf.count > MOST_ELEMENTS:
                 name = self.writer.spelling.leaf(column, leaf.path)

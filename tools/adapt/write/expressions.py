@@ -160,6 +160,8 @@ class Expressions(Component):
         """What a test for a null pointer gives of a parameter to which each call hands an object. Raises Refused
         where no call hands one over."""
         meaning = self.writer.names.meaning.get(node) if isinstance(node, tree.ID) else None
+        if isinstance(node, tree.Constant) and node.type == "string":  # (`assert(0 && "why")`)
+            return "0"
         if not isinstance(meaning, Variable) or not (isinstance(meaning.type, Pointer) or meaning.binding == "lent"):
             return None
         if not meaning.is_bound:

@@ -26,8 +26,8 @@ OPEN = "\x04"  # the bracket of an access that is written already
 EACH = re.compile(
     r"for \(int i = 0; i < n; i\+\+\) \{ ([^{}]*;) \}(?: return a;)?"
 )  # a model that does the same with each element
-MOST_LEAVES = 64
-MOST_STRAIGHT = 16  # the integers that a call sets without a loop
+MOST_LEAVES = 256  # the statements that set an element
+MOST_STRAIGHT = 16  # the integers that a call, or those of an array within an element, sets without a loop
 
 
 class Written:
@@ -60,13 +60,17 @@ class Written:
         text = SET.sub(self.set_elements, OWN.sub(r"$\1", found[1]).replace("$i", str(at))).replace(OPEN, "[")
         return re.sub(r"\$(\w+)", lambda word: given[word[1]], text)
 
-    def access(self, at: str, index: str, path: tuple[str, ...], element: int = 0) -> str:
-        """The text of an element, which is -1's where it lies outside of its object."""
+    def access(self, at: str, index: str, path: tuple[str, ...], element: str = "0") -> str:
+        """The text of an element, which is -1's where it lies outside of its object. `element` is the number of one of its integers, or
+        the name of what counts these."""
         whole, parts = f"${at} + {index}" if index != "0" else f"${at}", self.regions[at].parts()
         tests = [f" | -({whole} >= ${at}_e)"] * (END in parts) + [f" | -({whole} < ${at}_b)"] * (BEGIN in parts)
         name, factor, add = self.leaf(self.regions[at], path)
         checked = Value(f"{whole}{''.join(tests)}", kinds.INT, 3 if tests else PRIMARY if index == "0" else 9)
-        checked = plus(times(checked, factor), Value(str(add + element), kinds.INT, PRIMARY))
+        known = int(element) if element.isdecimal() else 0
+        checked = plus(times(checked, factor), Value(str(add + known), kinds.INT, PRIMARY))
+        if not element.isdecimal():
+            checked = plus(checked, Value(element, kinds.INT, PRIMARY))
         return f"{name}{OPEN}{checked.text}]"
 
     def set_elements(self, found: "re.Match[str]") -> str:
@@ -77,9 +81,11 @@ class Written:
             right = self.access(of, other, ()) if of else f"({elem.text}) {value}" if value == "$c" else value
             return f"{self.access(to, index, ())} = {right};"
         for leaf in kinds.leaves(elem):
-            for at in range(leaf.count):
+            few = leaf.count <= MOST_STRAIGHT
+            for at in [str(number) for number in range(leaf.count)] if few else ["$k"]:
                 right = self.access(of, other, leaf.path, at) if of else none_of(leaf)
-                made.append(f"{self.access(to, index, leaf.path, at)} = {right};")
+                text = f"{self.access(to, index, leaf.path, at)} = {right};"
+                made.append(text if few else f"for (int $k = 0; $k < {leaf.count}; $k++) {{ {text} }}")
         return " ".join(made)
 
 
@@ -185,7 +191,8 @@ class ModelCalls(Component):
         if fault:
             raise Refused(node.coord, fault[1], fault[2])
         leaves = list(kinds.leaves(region.type)) if isinstance(region.elem, (Int, Struct, Pointer)) else []
-        if region.column is None or not leaves or sum(leaf.count for leaf in leaves) > MOST_LEAVES:
+        texts = sum(leaf.count if leaf.count <= MOST_STRAIGHT else 1 for leaf in leaves)
+        if region.column is None or not leaves or texts > MOST_LEAVES:
             raise Refused(node.coord, "memory whose objects aren't known, or are large", "assign the elements")
         return region
 

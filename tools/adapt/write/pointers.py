@@ -6,7 +6,7 @@ from typing import Optional, TypeGuard
 from ..bind.places import At
 from ..bind.values import PRIMARY, UNARY, Value, minus, number, plus, times
 from ..common import kinds, tree
-from ..common.kinds import BEGIN, END, INDEX, NIL, Array, Pointer, Signature
+from ..common.kinds import BEGIN, END, INDEX, MOST_INDEX, NIL, Array, Pointer, Signature
 from ..common.objects import Function, Place, Variable
 from ..common.output import unmarked
 from ..common.refusals import Refused
@@ -18,7 +18,6 @@ from . import first_member_casts, statement_exprs
 from .component import Component
 
 
-MOST = 16383  # no index of a column is greater
 NONE = {
     INDEX: Value(str(NIL), kinds.INT, UNARY),
     END: Value("0", kinds.INT, PRIMARY),
@@ -178,15 +177,15 @@ class Pointers(Component):
         return Value(f"(int) {value.within(UNARY)}", kinds.INT, UNARY)
 
     def wide(self, value: Value) -> Value:
-        """A number of elements by which a pointer is moved; one that no array has becomes 32,768, which lies outside of all."""
+        """A number of elements by which a pointer is moved; one that no array has becomes 65,536, which lies outside of all."""
         kind, text = value.kind, value.within(UNARY)
         if kind.signed and kind.bits == 64:
-            bad = f"((unsigned long) {text} + 16384 > 32767)"
+            bad = f"((unsigned long) {text} + {-NIL} > {2 * MOST_INDEX + 1})"
         else:
-            bad = f"({value.within(8)} > {MOST})"
+            bad = f"({value.within(8)} > {MOST_INDEX})"
         cast = text if kind.bits < 32 or (kind.bits == 32 and kind.signed) else f"(int) {text}"
         return Value(
-            f"(({unmarked(cast)} & ({unmarked(bad)} - 1)) + ({unmarked(bad)} << 15))",
+            f"(({unmarked(cast)} & ({unmarked(bad)} - 1)) + ({unmarked(bad)} << 16))",
             kinds.INT,
             PRIMARY,
             calls=value.calls,
@@ -210,14 +209,14 @@ class Pointers(Component):
 
     def part_of_way(self, node: tree.Expression) -> Optional[Value]:
         """The difference of two pointers by a constant (6.5.5p5), if it is one: in 32 bits, which is the same, and one division.
-        A difference that no array has comes with 32,768 more."""
+        A difference that no array has comes with 65,536 more."""
         if not (isinstance(node, tree.BinaryOp) and node.op == "/" and self.is_difference(node.left)):
             return None
         by = self.writer.constants.value(node.right)
-        if by is None or not 1 < by <= MOST:
+        if by is None or not 1 < by <= MOST_INDEX:
             return None
         way = self.writer.elements.steady_value(self.between(node.left))
-        text = f"{way.within(10)} / {by} + (({unmarked(way.within(8))} > {2 * MOST + 1}) << 15)"
+        text = f"{way.within(10)} / {by} + (({unmarked(way.within(8))} > {2 * MOST_INDEX + 1}) << 16)"
         return Value(text, kinds.INT, 9, calls=way.calls)
 
     def is_difference(self, node: tree.Expression) -> TypeGuard[tree.BinaryOp]:
@@ -334,7 +333,9 @@ class Pointers(Component):
                 by = self.writer.elements.steady_value(self.writer.expressions.value(node.index))
                 low = by.kind.signed and by.kind.bits == 64
                 tests.append(
-                    f"(unsigned long) {by.within(UNARY)} + 16384 > 32767" if low else f"{by.within(8)} > {MOST}"
+                    f"(unsigned long) {by.within(UNARY)} + {-NIL} > {2 * MOST_INDEX + 1}"
+                    if low
+                    else f"{by.within(8)} > {MOST_INDEX}"
                 )
             if by.kind.bits == 64:
                 by = Value(f"(int) {by.within(UNARY)}", kinds.INT, UNARY)

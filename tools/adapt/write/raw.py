@@ -10,7 +10,7 @@ from ..bind.initialisers import Filled
 from ..bind.places import At
 from ..bind.values import PRIMARY, UNARY, Known, Value, number, plus, times
 from ..common import kinds, tree
-from ..common.kinds import BEGIN, END, Int, Leaf
+from ..common.kinds import BEGIN, END, MOST_INDEX, NIL, Int, Leaf
 from ..common.objects import Place
 from ..names.ranges import SMALL, Range, within
 from .component import Component
@@ -150,9 +150,8 @@ class Raw(Component):
         found = self.writer.ranges.of(node)
         if number(value) is None and (found is None or not within(found, SMALL)):
             low = value.kind.signed and value.kind.bits == 64
-            tests.append(
-                f"(unsigned long) {value.within(UNARY)} + 16384 > 32767" if low else f"{value.within(8)} > 16383"
-            )
+            text = f"(unsigned long) {value.within(UNARY)} + {-NIL} > {2 * MOST_INDEX + 1}"
+            tests.append(text if low else f"{value.within(8)} > {MOST_INDEX}")
         if value.kind.bits == 64 and number(value) is None:
             return Value(f"(int) {value.within(UNARY)}", kinds.INT, UNARY, calls=value.calls)
         return value
