@@ -97,19 +97,24 @@ class Ranges:
     # ---- counters
 
     def begun(self, node: Optional[tree.Node], variable: Variable) -> Optional[Range]:
-        """What the head of a loop gives a variable first."""
+        """What the head of a loop gives a variable first; None where it doesn't, or changes it more than once."""
         parts: list[tree.Node] = [] if node is None else [node]
         if isinstance(node, tree.DeclList):
             parts = [*node.decls]
         elif isinstance(node, tree.ExprList):
             parts = [*node.exprs]
-        found = None
+        given: dict[tree.Node, Optional[tree.Node]] = {}
         for one in parts:
-            if isinstance(one, tree.Decl) and self.local(one) is variable and isinstance(one.init, tree.Expression):
-                found = self.of(one.init)
+            if isinstance(one, tree.Decl) and self.local(one) is variable:
+                given[one] = one.init
             if isinstance(one, tree.Assignment) and one.op == "=" and self.local(one.lvalue) is variable:
-                found = self.of(one.rvalue)
-        return as_kind(found, variable.type) if found and isinstance(variable.type, Int) else None
+                given[one] = one.rvalue
+        others = [one for part in parts for one in walk(part) if one in self.changes[variable] and one not in given]
+        first = next(iter(given.values()), None)
+        if len(given) != 1 or others or not isinstance(first, tree.Expression) or not isinstance(variable.type, Int):
+            return None
+        found = self.of(first)
+        return as_kind(found, variable.type) if found else None
 
     def loop(self, node: tree.For) -> None:
         """A counter within its loop, where the steps of the head alone change it there."""
@@ -128,7 +133,7 @@ class Ranges:
         kind, changes = variable.type, self.changes.get(variable, [])
         next_ = set(walk(node.next)) if node.next is not None else set()
         steps = [one for one in changes if one in next_]
-        if not isinstance(kind, Int) or len(steps) != 1:
+        if not isinstance(kind, Int) or kind.boolean or len(steps) != 1:
             return None
         inside = {one for part in (node.cond, node.stmt) if part is not None for one in walk(part)}
         if any(one in inside or (isinstance(one, tree.UnaryOp) and one.op == "&") for one in changes):
@@ -143,7 +148,7 @@ class Ranges:
         if by > 0 and test.op in ("<", "<=") and first[0] >= 0 and (signed or end[0] >= 0):
             last = end[1] - (test.op == "<")
             return (first[0], last) if last + by <= most and first[0] <= last else None
-        if by < 0 and test.op in (">", ">=") and (signed or end[0] >= 0):
+        if by < 0 and test.op in (">", ">=") and (signed or min(first[0], end[0]) >= 0):
             last = end[0] + (test.op == ">")
             return (last, first[1]) if last + by >= (least if signed else 0) and last <= first[1] else None
         return None
