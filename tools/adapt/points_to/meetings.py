@@ -10,7 +10,7 @@ from ..common.objects import Function, Variable
 from ..common.refusals import Refused
 from ..names.constants import is_offset
 from .heap import TAKES
-from .models import WHOLE, model_of
+from .models import WHOLE, element_count, model_of
 
 if TYPE_CHECKING:
     from .points_to import PointsTo
@@ -118,8 +118,10 @@ def handed_by_pointer(points: "PointsTo", done: set[tree.Node]) -> None:
 def of_model(points: "PointsTo", node: tree.FuncCall) -> None:
     """A call of a library's function goes through the objects of its pointers, and may copy from one to the other."""
     model = model_of(points.names.meaning.get(node))
-    whole = model is not None and model.name in WHOLE
-    found = [bare(points, one) if whole else points.value(one) for one in arguments(node) if not points.is_null(one)]
+    whole = model is not None and model.name in WHOLE and len(arguments(node)) == len(model.parameters)
+    last = arguments(node)[-1] if whole else None
+    given = [one for one in arguments(node) if not points.is_null(one)]
+    found = [points.value(one) if last is None or one is last else copied(points, one, last) for one in given]
     regions = [of.region.root() for of in found if isinstance(of, Pointer)]
     for region in regions:
         region.pointed = region.moved = True
@@ -152,8 +154,7 @@ def called_heap(points: "PointsTo", node: tree.FuncCall, name: str) -> None:
 
 
 def bare(points: "PointsTo", node: tree.Expression) -> Type:
-    """What is handed to a parameter that is a pointer to void, of free and of functions that take whole elements. A cast to another
-    pointer there, as in `free((char *) p)`, changes nothing (6.3.2.3p1)."""
+    """What free is handed. A cast to another pointer there, as in `free((char *) p)`, changes nothing (6.3.2.3p1, 7.22.3.3p2)."""
     casts = list[tree.Cast]()
     while isinstance(node, tree.Cast) and isinstance(points.constants.type_of(node), Pointer):
         casts.append(node)
@@ -163,3 +164,26 @@ def bare(points: "PointsTo", node: tree.Expression) -> Type:
         return points.value(casts[0]) if casts else of
     points.values.update((one, of) for one in casts)
     return of
+
+
+def copied(points: "PointsTo", node: tree.Expression, count: tree.Expression) -> Type:
+    """What a function that takes whole elements is handed, with the number of bytes. A cast to a pointer to void or to characters there
+    changes nothing, where the number is one of whole elements of what is cast (6.3.2.3p1)."""
+    inner = node
+    while isinstance(inner, tree.Cast) and is_of_bytes(points.constants.type_of(inner)):
+        inner = inner.expr
+    of = kinds.behind(points.constants.type_of(inner))
+    size = None if of is None else kinds.size(kinds.element(of))
+    if size is None or inner is node or isinstance(inner, tree.Cast):
+        return points.value(node)
+    try:
+        element_count(points.constants, count, size)
+    except Refused:
+        return points.value(node)
+    return bare(points, node)
+
+
+def is_of_bytes(of: Type) -> bool:
+    """Whether a type is that of pointers to void or to characters."""
+    to = of.to if isinstance(of, Pointer) else None
+    return to == kinds.VOID or (isinstance(to, Int) and to.bits == 8)

@@ -163,7 +163,7 @@ class ModelCalls(Component):
         self, node: tree.Expression, at: str, region: Region, model: Model, count: str
     ) -> tuple[str, str]:
         """An argument that is no pointer, with the type of the number of elements. Raises Refused for bytes of what
-        has none."""
+        has none, and for a constant number of them that is no whole number of elements."""
         if at != "n":
             narrow = isinstance(region.elem, Int) and region.elem.bits == 8
             if model.name == "memset" and not narrow and self.writer.constants.value(node) != 0:
@@ -175,6 +175,8 @@ class ModelCalls(Component):
         try:
             whole = element_count(self.writer.constants, node, size)
         except Refused:  # (a part of an element, which is no whole number of them, ends the run)
+            if self.writer.constants.value(node) is not None:
+                raise
             given = self.writer.elements.steady_value(self.writer.expressions.value(node))
             text = given.within(UNARY)
             return f"{text} / {size} | -({text} % {size} != 0)", "size_t"
