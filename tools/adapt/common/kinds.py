@@ -257,14 +257,17 @@ def fit(value: int, kind: Int) -> int:
     return value - (1 << kind.bits) if kind.signed and value >> (kind.bits - 1) else value
 
 
-def has_bytes(of: Type) -> bool:
-    """Whether an object of the type may stand as its bytes: it has a known size, and no pointers or bit-fields."""
+def has_bytes(of: Type, pointers: bool = False) -> bool:
+    """Whether an object of the type may stand as its bytes: it has a known size, and no pointers or bit-fields. With `pointers` it
+    may have these."""
+    if isinstance(of, Pointer):
+        return pointers
     if isinstance(of, Array):
-        return of.length is not None and has_bytes(of.of)
+        return of.length is not None and has_bytes(of.of, pointers)
     if isinstance(of, Struct):
         if of.members is None or of.fault or any(width is not None for _, _, width in of.declared):
             return False
-        return all(has_bytes(member) for _, member in of.members)
+        return all(has_bytes(member, pointers) for _, member in of.members)
     return isinstance(of, Int) and not of.width or (isinstance(of, Other) and of != VOID and of.bytes is not None)
 
 
