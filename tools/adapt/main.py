@@ -170,6 +170,8 @@ def main(given: Optional[list[str]] = None) -> int:
         writer.put_table(asked.out)
         put_map(asked.out, texts, writer)
         print("wrote " + " ".join(paths))
+        for function in writer.outside.keeping:
+            print(f"{function.name} is taken to keep each pointer in the objects that it is handed, as --input says")
         if asked.bounds:
             print(needed.text_of(texts, set(asked.sources)))
         if asked.harness:

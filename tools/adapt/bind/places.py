@@ -6,13 +6,15 @@ from typing import Optional, Protocol, Union
 
 from ..common import kinds, tree
 from ..common.kinds import Array, Int, Other, Pointer, Region, Struct, Type, fault_of
-from ..common.objects import Place, Variable, View
+from ..common.objects import Function, Place, Variable, View
 from ..common.refusals import Refused
 from ..names import unions
 from ..names.names import Names
 from .values import Value
 
+Indexes = tuple[tuple[tree.Expression, int], ...]  # each with the array's length
 Owner = Union[Variable, tuple[Region, str]]  # an object, or the member of all elements of another region
+MOST_CALLS = 64  # of one function that run at once: more frames than that no run of the program has
 USE = "name the object itself, or hand its address over as a parameter that is only dereferenced"
 
 
@@ -31,6 +33,19 @@ class At(tree.Expression):
     ends: Optional[dict[str, Value]] = None
 
 
+@dataclass(eq=False)
+class Level(tree.Expression):
+    """The number of the call of a function that calls itself among those that run, each of which has locals of its own (6.2.4p6)."""
+
+    function: Function
+    coord: Optional[tree.Coord] = None
+
+
+def aligned(size: int) -> int:
+    """The bytes from an object that stands as its bytes to the next one, so that a test of an address tells the same of both."""
+    return -(-size // 8) * 8
+
+
 class Laid(Protocol):
     """What places ask of the columns, which are laid out later."""
 
@@ -39,6 +54,9 @@ class Laid(Protocol):
 
     def begin(self, region: Region, owner: Owner) -> int:
         """The number of the element with which an object begins in its column."""
+
+    def level(self, variable: Variable) -> Optional[Level]:
+        """Which of a local's objects is meant, where there are several at once."""
 
     def pointer(self, node: tree.Expression) -> Pointer:
         """The type of a pointer's value, with its region. Raises Refused for what is no pointer."""
@@ -59,10 +77,15 @@ class Places:
         region = self.columns.home(variable) if self.columns is not None else None
         if self.columns is not None and region is not None and region.column is not None:
             whole = (kinds.size(variable.type) or 0) if region.raw else 0
-            return Place(
-                region.column, (), (), variable.type, self.columns.begin(region, variable), region, whole=whole
-            )
+            start, indexes = self.columns.begin(region, variable), self.levelled(variable)
+            indexes += ((self.zero, aligned(whole)),) if region.raw and indexes else ()
+            return Place(region.column, (), indexes, variable.type, start, region, whole=whole)
         return Place(variable, (), (), variable.type, 0, region)
+
+    def levelled(self, variable: Variable) -> Indexes:
+        """The index that leads to an object of a local in a column, where there are several at once."""
+        level = self.columns.level(variable) if self.columns is not None else None
+        return () if level is None else ((level, MOST_CALLS),)
 
     def member(self, base: Place, name: str, node: Optional[tree.Expression]) -> Place:
         """The place of a member. Raises Refused for a member that there isn't, or that can't be written."""
@@ -94,11 +117,10 @@ class Places:
         inner = inner.root() if inner else None
         if self.columns is not None and inner is not None and inner.column is not None and base.region is not None:
             start = self.columns.begin(inner, (base.region.root(), name))
-            if inner.raw:
-                size = kinds.size(of) or 0
-                at = base.shifted() + (((self.zero, size),) if base.shifted() else ())
-                return Place(inner.column, (), at, of, start, inner, whole=size)
-            return Place(inner.column, (), base.shifted(), of, start, inner)
+            at = self.levelled(base.variable) + base.shifted()
+            size = (kinds.size(of) or 0) if inner.raw else 0
+            at += ((self.zero, size),) if inner.raw and at else ()
+            return Place(inner.column, (), at, of, start, inner, whole=size)
         other = kinds.element(stored) if isinstance(kinds.element(of), Int) and stored != of else None
         return Place(base.variable, base.path + (name,), base.shifted(), of, 0, inner, stored=other)
 

@@ -13,7 +13,7 @@ from ..common.kinds import Int
 from ..write.writer import Writer
 from .compare_builds import PATIENT, TIME_IS_UP, Build, Run, all_built
 from .compare_inputs import Given, Inputs
-from .compare_texts import FELL_OFF, Texts, parts
+from .compare_texts import DEEP, FELL_OFF, Texts, parts
 
 ENDED, FAILED = 0, -6  # a run to its end, and one whose assert failed
 # why a run has no meaning from some call on, by its status
@@ -87,7 +87,7 @@ class Comparison:
             for at, run in zip(late, again):
                 runs[at] = run
         for at, (trial, run) in enumerate(zip(trials, runs)):
-            if run.status == FELL_OFF or (run.status in TIME_IS_UP and at in late[3:]):
+            if run.status in (FELL_OFF, DEEP) or (run.status in TIME_IS_UP and at in late[3:]):
                 trial.cut(run, FELL if run.status == FELL_OFF else "")
         return runs
 

@@ -7,6 +7,7 @@ each call, in a line a call; behind a run stands `=STATUS`.
 import os
 from collections.abc import Iterator
 
+from ..bind.places import MOST_CALLS
 from ..common import kinds
 from ..common.kinds import Array, Int, Path, Struct, Type
 from ..common.objects import Function, Variable
@@ -19,7 +20,8 @@ from ..points_to.models import model_of
 from ..read.reading import is_system
 from ..write.writer import Writer
 
-FELL_OFF = 77  # the status of a run off the end of a function that gives something
+FELL_OFF = 77  # the status of a run off the end of a function that gives something,
+DEEP = 76  # and of one that has more frames than the program takes
 DRIVER = """#include <stdio.h>
 #include <stdlib.h>
 #include <unistd.h>
@@ -27,6 +29,7 @@ DRIVER = """#include <stdio.h>
 #include <sys/wait.h>
 %s
 void adapt_fell(void) { _exit(%d); }
+void adapt_deep(void) { _exit(%d); }
 static FILE *adapt_told; /* (what the sources print goes nowhere) */
 void adapt_tell(long long value) { fprintf(adapt_told, " %%lld", value); }
 static void adapt_give(long long value) { fprintf(adapt_told, "%%lld", value); }
@@ -174,7 +177,7 @@ class Texts:
             self.declared(one) + "\n" for one in self.entries
         )
         told = "\n".join(f"    adapt_dump_{number}();" for number in range(dumps))
-        return DRIVER % (head, FELL_OFF, self.calls(), told)
+        return DRIVER % (head, FELL_OFF, DEEP, self.calls(), told)
 
     def calls(self) -> str:
         """The cases that call each entry with arguments of the line."""
@@ -213,7 +216,7 @@ class Texts:
         apart, again = [
             "".join(line.format(one) for one in own) for line in ("#define {0} adapt_own_{0}\n", "#undef {0}\n")
         ]
-        text = f"#include <stdint.h>\n#include <stddef.h>\n#include <assert.h>\n{apart}{copied(made, folder)}{again}{TELLING}"
+        text = f"#include <stdint.h>\n#include <stddef.h>\n#include <assert.h>\n{apart}{copied(self.guarded(made), folder)}{again}{TELLING}"
         for one in self.outer:
             if isinstance(one.result, Int):
                 text += f"{one.result.text} {one.out}(void) {{ return ({one.result.text}) adapt_answer(); }}\n"
@@ -224,6 +227,14 @@ class Texts:
             f"{one}\n" for one in self.writer.raw.front() if one not in self.front
         )  # (that nothing else needs)
         return [f"{text}{reads}void adapt_dump_0(void) {{\n{dump}\n}}\n", self.driver(1)]
+
+    def guarded(self, made: dict[str, str]) -> list[str]:
+        """What was written, where a run ends that has more calls of one function at once than have locals in columns."""
+        texts = list(made.values())
+        for name in self.writer.levels.names.values():
+            end = f"{name}++; if ({name} >= {MOST_CALLS}) adapt_deep();"
+            texts = [text.replace(f"{name}++;", end) for text in texts]
+        return texts
 
     def in_order(self) -> list[Variable]:
         """The compared objects in the order of their sources."""
@@ -236,11 +247,11 @@ def home_of(variable: Variable) -> str:
     return variable.unit.path if variable.unit is not None else ""
 
 
-def copied(made: dict[str, str], folder: str) -> str:
+def copied(made: list[str], folder: str) -> str:
     """Directives that include copies of what was written, with a call where a function that gives something ends without a
     return."""
-    whole = "void adapt_fell(void);\n"
-    for number, text in enumerate(made.values()):
+    whole = "void adapt_fell(void); void adapt_deep(void);\n"
+    for number, text in enumerate(made):
         path = os.path.join(folder, f"made_{number}.c")
         with open(path, "w", encoding="utf-8", errors="surrogateescape") as file:
             file.write(text.replace(FELL, "adapt_fell();"))

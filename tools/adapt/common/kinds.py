@@ -267,15 +267,18 @@ def is_flexible(of: Type) -> bool:
     return isinstance(of, Array) and of.length is None
 
 
-def has_bytes(of: Type) -> bool:
-    """Whether an object of the type may stand as its bytes: it has a known size, and no pointers or bit-fields."""
+def has_bytes(of: Type, pointers: bool = False) -> bool:
+    """Whether an object of the type may stand as its bytes: it has a known size, and no pointers or bit-fields. With `pointers` it
+    may have these."""
+    if isinstance(of, Pointer):
+        return pointers
     if isinstance(of, Array):
-        return of.length is not None and has_bytes(of.of)
+        return of.length is not None and has_bytes(of.of, pointers)
     if isinstance(of, Struct):
         if of.members is None or of.fault or any(width is not None for _, _, width in of.declared):
             return False
         held = of.members[:-1] if of.members and is_flexible(of.members[-1][1]) else of.members
-        return all(has_bytes(member) for _, member in held)
+        return all(has_bytes(member, pointers) for _, member in held)
     return isinstance(of, Int) and not of.width or (isinstance(of, Other) and of != VOID and of.bytes is not None)
 
 

@@ -1,11 +1,11 @@
 """What a function that no source defines may do to the objects that it is handed: an object at a pointer that isn't to const has any
-values behind the call, each of its integers an input of its own."""
+values behind the call, each of its integers an input of its own, and the pointers that it had."""
 
 from typing import Optional
 
 from ..bind.places import Places, arguments
 from ..common import kinds, tree
-from ..common.kinds import Array, Pointer, Struct
+from ..common.kinds import Array, Leaf, Pointer, Struct
 from ..common.objects import Function, Place
 from ..common.refusals import Refused
 
@@ -49,10 +49,14 @@ def handed(places: Places, function: Function, number: int, argument: tree.Expre
         )
     except Refused:
         return None
-    leaves = list(kinds.leaves(place.type))
-    few = 0 < sum(leaf.count for leaf in leaves) <= MOST_CHANGED and not kinds.is_mixed(place.type)
-    plain = not any(leaf.path and leaf.path[-1].startswith("@") for leaf in leaves) and place.view is None
-    return place if few and plain and kinds.has_bytes(place.type) else None
+    count = sum(leaf.count for leaf in kinds.leaves(place.type) if not is_of_pointer(leaf))
+    plain = place.view is None and not kinds.is_mixed(place.type) and kinds.has_bytes(place.type, True)
+    return place if plain and 0 < count <= MOST_CHANGED else None
+
+
+def is_of_pointer(leaf: Leaf) -> bool:
+    """Whether an integer of an object is one of those of a pointer."""
+    return bool(leaf.path) and leaf.path[-1].startswith("@")
 
 
 def changed(places: Places, node: tree.FuncCall, function: Optional[Function], inputs: set[str]) -> list[Place]:

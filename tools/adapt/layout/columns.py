@@ -1,8 +1,9 @@
 """The columns: for each region to which a pointer may point an array that has all of its objects, one behind the other."""
 
+from functools import cached_property
 from typing import Optional
 
-from ..bind.places import Owner
+from ..bind.places import MOST_CALLS, Level, Owner, aligned
 from ..common import kinds, tree
 from ..common.kinds import MOST_INDEX, Array, Path, Pointer, Region, Struct, Type
 from ..common.learned import HeapCall, Learned
@@ -30,6 +31,7 @@ class Columns:
             for target in targets:
                 target.calls.append((caller, node))
         learn(names, self.points, names.refusals.apart)
+        self.levels: dict[Function, Optional[Level]] = {}
         self.begins: dict[tuple[Region, Owner], int] = {}
         self.counts: dict[Region, int] = {}
         self.open: set[Region] = set()  # those that are laid out now
@@ -78,12 +80,11 @@ class Columns:
             region.elem = kinds.Int(8, False, "unsigned char")
         end, objects = 0, 0
         owners: list[Owner] = [*region.objects, *self.inner.get(region, [])]
+        owners.sort(key=self.is_levelled)  # (those have no first values)
         for owner in owners:
             is_pool = isinstance(owner, Variable) and owner in self.pools
             count, each = self.pool(owner, region) if isinstance(owner, Variable) and is_pool else self.extent(owner)
-            end = (
-                -(-end // 8) * 8 if region.raw else end
-            )  # (as aligned as their objects are, so that a test of it tells the same)
+            end = aligned(end) if region.raw else end
             self.begins[(region, owner)] = end
             end += count + 1
             objects += each
@@ -120,7 +121,11 @@ class Columns:
         """How many elements an owner has, and how many objects these are."""
         if isinstance(owner, Variable):
             whole = owner.type.to if owner.is_bound and isinstance(owner.type, Pointer) else owner.type
-            return self.points.count(whole, self.points.home(owner)), 1
+            region = self.points.home(owner).root()
+            count = self.points.count(whole, region)
+            if self.level(owner) is None:
+                return count, 1
+            return MOST_CALLS * (aligned(count) if region.raw else count), MOST_CALLS
         outer, name = owner
         if not isinstance(outer.elem, Struct) or not outer.elem.has(name):
             return 0, 0  # (objects of two types, which is a fault where one is used)
@@ -140,12 +145,38 @@ class Columns:
         region.column = made
 
     def check_locals(self) -> None:
-        """A local object in a column is there once, so its function may not be called while it runs."""
+        """A local object in a column of a function that calls itself is there as often as it may be called, so it may not be large."""
         for region in self.made:
             for one in region.objects:
-                if one.home in ("local", "parameter") and one.function and self.recurs(one.function):
+                if one.function is not None and self.level(one) is not None and self.extent(one)[0] > -kinds.NIL:
                     cause = f"the address of {one.name} is taken in {one.function.name}, which calls itself"
                     self.names.refusals.add(one.coord, cause, "hand over an object of the caller")
+
+    def level(self, variable: Variable) -> Optional[Level]:
+        """Which of a local's objects is meant, where its function may be called while it runs."""
+        function = variable.function if variable.home in ("local", "parameter") else None
+        if function is None:
+            return None
+        if function not in self.levels:
+            self.levels[function] = Level(function) if self.recurs(function) else None
+        return self.levels[function]
+
+    def is_levelled(self, owner: Owner) -> bool:
+        """Whether an owner is a local of which there are several objects at once."""
+        return isinstance(owner, Variable) and self.level(owner) is not None
+
+    @cached_property
+    def levelled(self) -> set[Function]:
+        """The functions that call themselves and have locals in columns."""
+        found = [one for one in self.names.variables if one.home == "local"]
+        found += [one for function in self.names.functions for one in function.parameters]
+        return {
+            one.function
+            for one in found
+            if one.function is not None
+            and self.level(one) is not None
+            and (self.in_column(one) or self.any_apart(self.home(one), one.type))
+        }
 
     def recurs(self, function: Function) -> bool:
         """Whether a function may be called while it runs."""

@@ -4,6 +4,7 @@ the file or of the heap have it then, they become -1 at the end of the function,
 
 from collections.abc import Iterator
 from dataclasses import dataclass
+from functools import cached_property
 from typing import Optional, Union
 
 from ..bind.initialisers import filled
@@ -12,7 +13,7 @@ from ..common import kinds, tree
 from ..common.kinds import INDEX, Array, Pointer, Region, Struct, Type
 from ..common.objects import Function, Variable
 from ..common.refusals import Refused
-from ..common.tree import with_parents
+from ..common.tree import walk, with_parents
 from ..names.names import Names
 from ..points_to.models import model_of
 from .columns import Columns
@@ -282,14 +283,25 @@ class Lifetimes:
                 self.ended.setdefault(local.function, []).append((local, inside.region))
 
     def outlives(self, holder: Variable, function: Optional[Function]) -> bool:
-        """Whether a pointer is there when a function has ended."""
+        """Whether a pointer is there when a function has ended, which may have set it."""
         if holder.home in ("local", "parameter"):
-            return (
-                holder.function is not None
-                and holder.function is not function
-                and self.calls(holder.function, function)
-            )
+            apart = holder.function is not None and holder.function is not function and not self.is_its_own(holder)
+            return apart and holder.function is not None and self.calls(holder.function, function)
         return holder.home != "text" and not holder.const
+
+    def is_its_own(self, holder: Variable) -> bool:
+        """Whether a pointer is one that only its own function sets, since nothing takes its address."""
+        if not isinstance(holder.type, Pointer) or holder.is_bound:
+            return False
+        return holder not in self.addressed
+
+    @cached_property
+    def addressed(self) -> set[Variable]:
+        """The objects of whose whole the address is taken."""
+        bodies = [one.definition.body for one in self.names.functions if one.definition is not None]
+        nodes = [node for body in bodies for node in walk(body) if isinstance(node, tree.UnaryOp) and node.op == "&"]
+        found = [self.names.meaning.get(node.expr) for node in nodes if isinstance(node.expr, tree.ID)]
+        return {one for one in found if isinstance(one, Variable)}
 
     def calls(self, one: Function, other: Optional[Function]) -> bool:
         """Whether a function may call another one, in the end."""

@@ -2,6 +2,7 @@
 
 from typing import Optional
 
+from ..bind.places import Level
 from ..bind.values import PRIMARY, UNARY, Value, number, plus, times
 from ..common import kinds, tree
 from ..common.kinds import Int, Leaf
@@ -66,7 +67,8 @@ class Elements(Component):
             if length == 1 or (whole is not None and whole.text.isdecimal()):
                 whole = plus(times(whole, length), one) if whole is not None else one
                 continue
-            if self.writer.check and len(place.indexes) > 1 and not (known is not None and 0 <= known <= most):
+            safe = isinstance(node, Level) or (known is not None and 0 <= known <= most)
+            if self.writer.check and len(place.indexes) > 1 and not safe:
                 below = f"{one.within(8)} >= 0 && " if one.kind.signed else ""
                 self.writer.emit(f"assert({unmarked(below)}{unmarked(one.within(8))} < {most + 1});")
             if whole is None:
@@ -74,6 +76,7 @@ class Elements(Component):
             else:
                 base = times(whole, length).within(9) if column else f"{whole.within(10)} * {length}"
                 text, kind = f"{base} + {one.within(10)}", kinds.common(whole.kind, one.kind)
+                text = base if isinstance(place.indexes[0][0], Level) and number(one) == 0 else text
                 whole = Value(text, kind, 9, calls=whole.calls or one.calls)
         if tests and whole is not None:
             text = " | ".join([whole.within(4), *(f"-({one})" for one in tests)])
@@ -90,6 +93,8 @@ class Elements(Component):
 
     def below(self, node: tree.Expression, length: int) -> bool:
         """Whether an index is one of the array's at all events."""
+        if isinstance(node, Level):
+            return True
         found = self.writer.ranges.of(node)
         return found is not None and within(found, (0, length - 1))
 

@@ -2,6 +2,7 @@
 
 from collections.abc import Iterator
 
+from ..bind.values import number
 from ..common.kinds import INDEX, Region
 from ..common.objects import Function, Variable
 from ..layout.lifetimes import Inside, inner_region
@@ -18,13 +19,15 @@ class Endings(Component):
         made, lifetimes = list[str](), self.writer.lifetimes
         for local, region in lifetimes.ended.get(function, []):
             own = lifetimes.points.home(local).root()
-            begin, count = self.writer.columns.begins[(own, local)], self.writer.columns.count(local.type, own)
+            count, place = self.writer.columns.count(local.type, own), self.writer.places.of_variable(local)
+            begin = self.writer.elements.index(place, True)
+            assert begin is not None
             holders = dict.fromkeys(text for one in lifetimes.owned[region] for text in self.holders(one, region))
             if len(holders) > MOST_ENDED:
                 lifetimes.refuse(local, Inside(region))
                 continue
             for text in holders:
-                bad = f"(unsigned int) ({text} - {begin})" if begin else f"(unsigned int) {text}"
+                bad = f"(unsigned int) ({text} - {begin.within(9)})" if number(begin) != 0 else f"(unsigned int) {text}"
                 made.append(f"{text} = {text} | -({bad} <= {count});")
         return made
 

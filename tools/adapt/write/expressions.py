@@ -4,7 +4,7 @@ from collections.abc import Callable
 from typing import Optional
 
 from ..bind.initialisers import Part
-from ..bind.places import At
+from ..bind.places import At, Level
 from ..bind.values import LEVELS, PRIMARY, UNARY, Known, Value
 from ..common import kinds, tree
 from ..common.kinds import INDEX, NIL, Array, Int, Pointer
@@ -41,6 +41,8 @@ class Expressions(Component):
             return node.value
         if isinstance(node, At):
             return self.writer.pointers.element_at(node)
+        if isinstance(node, Level):
+            return Value(self.writer.levels.names[node.function], kinds.INT, PRIMARY)
         if isinstance(node, Part):
             null = self.writer.pointers.is_null(node.pointer)
             several = not null and len(self.writer.columns.pointer(node.pointer).region.parts()) > 1

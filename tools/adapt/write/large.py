@@ -120,8 +120,9 @@ class LargeArrays:
             at = end + 1
             if sets is None:
                 constant = unmarked(index).strip()
-                known = short and constant.isdecimal()
-                made.append(one.at(int(constant)) if known and one.at else f"{one.reads}({index})")
+                bytes_of = one.at(int(constant)) if short and one.at and constant.isdecimal() else ""
+                in_words = words.search(bytes_of)  # (of which each byte would be a call)
+                made.append(bytes_of if bytes_of and not in_words else f"{one.reads}({index})")
                 continue
             op = sets.group(1)
             if op in ("++", "--"):

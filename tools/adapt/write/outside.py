@@ -1,6 +1,6 @@
 """Calls of functions that no source defines: input functions, and those that were named as such."""
 
-from typing import Optional
+from typing import TYPE_CHECKING, Optional
 
 from ..bind.places import arguments
 from ..bind.values import PRIMARY, Value
@@ -8,12 +8,19 @@ from ..common import tree
 from ..common.kinds import Array, Int, Pointer
 from ..common.objects import Function, Place
 from ..common.refusals import Refused
-from ..effects.changed import handed, takes_const
+from ..effects.changed import handed, is_of_pointer, takes_const
 from .component import Component
+
+if TYPE_CHECKING:
+    from .writer import Writer
 
 
 class OutsideCalls(Component):
-    """The calls of functions that no source defines."""
+    """The calls of functions that no source defines. `keeping` are those that are handed objects with pointers, which stay."""
+
+    def __init__(self, writer: "Writer") -> None:
+        super().__init__(writer)
+        self.keeping: dict[Function, None] = {}
 
     def outer_call(self, node: tree.FuncCall, function: Function) -> tuple[str, list[str]]:
         """A call of a function that no source defines: an input function, or one that was named as such. Behind it
@@ -37,9 +44,12 @@ class OutsideCalls(Component):
         return f"{self.writer.at(node)}{function.out}()", after
 
     def given_values(self, function: Function, place: Place) -> list[str]:
-        """Gives each integer of an object a value that is an input."""
+        """Gives each integer of an object a value that is an input; its pointers stay."""
         index, found = self.writer.elements.index(place, True), []
         for leaf, texts in self.writer.elements.integers(place, index):
+            if is_of_pointer(leaf):
+                self.keeping[function] = None
+                continue
             key = (function, leaf.kind.text)
             if key not in self.writer.outer_values:
                 self.writer.outer_values[key] = self.writer.spelling.fresh(f"{function.name}_gives", True)

@@ -7,7 +7,7 @@ from functools import partial
 from typing import TYPE_CHECKING, Union
 
 from ..bind.initialisers import Filled
-from ..bind.places import At
+from ..bind.places import At, Level
 from ..bind.values import PRIMARY, UNARY, Known, Value, number, plus, times
 from ..common import kinds, tree
 from ..common.kinds import BEGIN, END, MOST_INDEX, NIL, Int, Leaf
@@ -112,7 +112,7 @@ class Raw(Component):
         base = Value("0", kinds.INT, PRIMARY)
         for node, length in place.shifted():
             one = writer.expressions.value(node)
-            if not isinstance(node, At):
+            if not isinstance(node, (At, Level)):
                 one = self.narrow(writer.elements.steady_value(one), tests, node)
             base = plus(times(base, length), one)
         if at is not None and at.tests is not None:

@@ -5,9 +5,10 @@ from collections.abc import Callable, Sequence
 from typing import TYPE_CHECKING, Optional
 
 from ..bind.initialisers import filled, none_of
+from ..bind.values import number
 from ..common import kinds, tree
 from ..common.kinds import Int, Pointer, Struct
-from ..common.objects import Place, Variable
+from ..common.objects import Function, Place, Variable
 from ..common.refusals import Refused
 from ..common.tree import LOOPS, walk
 from .component import Component
@@ -399,7 +400,7 @@ class Statements(Component):
             return
         one = self.writer.conversions.converted(self.writer.expressions.value(node.expr), function.result)
         text = one.text
-        if (self.writer.order.outs(function) and one.calls) or function in self.writer.lifetimes.ended:
+        if (self.writer.order.outs(function) and one.calls) or (self.has_end(function) and number(one) is None):
             text = self.writer.temporary(function.result, text)
         self.hand_back()
         self.writer.emit(f"return {text};")
@@ -417,8 +418,13 @@ class Statements(Component):
             )
         for text in self.writer.endings.texts(self.writer.function):
             self.writer.emit(text)
+        self.writer.levels.end(self.writer.function)
 
     def hands_back(self) -> bool:
         """Whether something is written before a return."""
         assert self.writer.function is not None
-        return bool(self.writer.order.outs(self.writer.function)) or self.writer.function in self.writer.lifetimes.ended
+        return bool(self.writer.order.outs(self.writer.function)) or self.has_end(self.writer.function)
+
+    def has_end(self, function: Function) -> bool:
+        """Whether something is written where the locals of a function end."""
+        return function in self.writer.lifetimes.ended or function in self.writer.levels.names

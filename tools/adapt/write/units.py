@@ -50,10 +50,8 @@ class Units(Component):
             *(self.heading(one) + ";" for one in self.writer.names.functions if is_outer(self.writer, one)),
         ]
         models = [text for _, text in self.writer.models.written_models.values()]
-        made = [
-            (self.writer.begin[1], text)
-            for text in [*outer, *self.writer.heap.front(), *self.writer.raw.front(), *front, *models]
-        ]
+        own = [*self.writer.levels.front(), *self.writer.heap.front(), *self.writer.raw.front()]
+        made = [(self.writer.begin[1], text) for text in [*outer, *own, *front, *models]]
         if end:
             last = self.writer.files.setdefault(
                 self.writer.names.items[-1][0].path, File(self.writer.names.items[-1][0].path)
@@ -278,6 +276,7 @@ class Units(Component):
             self.writer.checks.check_names(function)
         with self.writer.names.refusals.gathered():
             self.writer.emit(self.heading(function) + " {")
+        self.writer.levels.begin(function)
         self.normal(function)
         self.writer.heap.begin(function)
         self.writer.column_items.into_columns(function)

@@ -29,6 +29,7 @@ from .endings import Endings
 from .expressions import Expressions
 from .heap_calls import Heap
 from .large import LargeArrays
+from .levels import Levels
 from .model_calls import ModelCalls
 from .order import Order
 from .outside import OutsideCalls
@@ -104,6 +105,7 @@ class Writer:
             Wholes(self),
         )
         self.conversions, self.assignments, self.expressions = Conversions(self), Assignments(self), Expressions(self)
+        self.levels = Levels(self)
         self.overflow: Optional[Overflow] = None
         if asked.overflows or asked.conversions:
             self.overflow = made = Overflow(self, asked.overflows, asked.conversions)
