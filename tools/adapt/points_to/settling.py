@@ -18,11 +18,11 @@ if TYPE_CHECKING:
 def settle(points: "PointsTo") -> None:
     """Lets objects stand as their bytes where something needs them: parts of a union that are pointed to, unions whose members
     have no common form, and memory that is copied, set or compared by bytes."""
-    for variable in points.names.variables:
-        if kinds.is_mixed(variable.type):
-            points.home(variable)
     before, done, joined = -1, set[tree.Node](), 0
     while before != raws(points) + len(done) + joined:
+        for variable in points.names.variables:
+            if kinds.is_mixed(variable.type):
+                points.home(variable)
         before = raws(points) + len(done) + joined
         handed_by_pointer(points, done)
         joined += join(points)
