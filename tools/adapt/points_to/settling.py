@@ -35,9 +35,13 @@ def settle(points: "PointsTo") -> None:
         for variable, region in list(points.homes.items()):
             if kinds.is_mixed(variable.type) and not region.root().raw:
                 points.as_bytes(region, [region.root().type], variable.coord)
-        for of in pointers(points):
-            if kinds.is_mixed(of.to) and not of.region.root().raw:
-                points.as_bytes(of.region, [of.to], None)
+        for one in pointers(points):
+            if kinds.is_mixed(one.to) and not one.region.root().raw:
+                points.as_bytes(one.region, [one.to], None)
+        for region, at in points.by_bytes:
+            of = region.root().type
+            if not region.root().raw and of != kinds.VOID and not (isinstance(of, Int) and of.bits == 8):
+                points.as_bytes(region, [of], at)
         for node, model in points.modelled:
             by_bytes(points, node, model)
 

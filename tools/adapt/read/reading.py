@@ -65,12 +65,16 @@ HEADERS_LEFT_OUT = {
 ATTRIBUTE = re.compile(r"\b__attribute(?:__)?\b\s*\(((?:[^()]|\((?:[^()]|\((?:[^()]|\([^()]*\))*\))*\))*)\)")
 # builtin functions of the compiler, by what they say in C; the others that have a model stand in models/
 BUILTINS = [
-    "__builtin_expect(e, c)=(e)",
+    "__builtin_expect(e, c)=((long) (e))",
     "__builtin_constant_p(e)=0",
     "__builtin_unreachable()=abort()",
     "__builtin_trap()=abort()",
 ]
-BUILTINS += ["__builtin_prefetch(...)=((void) 0)", "__builtin_assume_aligned(p, ...)=(p)", "__builtin_LINE()=__LINE__"]
+BUILTINS += [
+    "__builtin_prefetch(p, ...)=((void) (p))",
+    "__builtin_assume_aligned(p, ...)=(p)",
+    "__builtin_LINE()=__LINE__",
+]
 BUILTINS += [
     f"__builtin_{name}={name}"
     for name in "abort abs labs llabs memcpy memmove memset memcmp memchr strlen strcpy strncpy strcat strncat strcmp strncmp strchr "

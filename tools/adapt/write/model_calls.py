@@ -169,6 +169,8 @@ class ModelCalls(Component):
         try:
             whole = element_count(self.writer.constants, node, size)
         except Refused:  # (a part of an element, which is no whole number of them, ends the run)
+            if self.writer.constants.value(node) is not None:
+                raise
             given = self.writer.elements.steady_value(self.writer.expressions.value(node))
             text = given.within(UNARY)
             return f"{text} / {size} | -({text} % {size} != 0)", "size_t"
