@@ -300,7 +300,7 @@ class Effected:
                 region = self.columns.pointer(argument).region.root()
             except Refused:
                 continue
-            if region.column is None:
+            if region.column is None or region.fault:
                 continue
             at = [self.columns.leaf_at(region, leaf.path) for leaf in leaves(region.type)]
             whole: dict[Object, bool] = {(variable, path, True): True for variable, path, _, _ in at}

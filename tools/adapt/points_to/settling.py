@@ -5,7 +5,7 @@ from typing import TYPE_CHECKING
 
 from ..bind.places import arguments
 from ..common import kinds, tree
-from ..common.kinds import Int, Pointer
+from ..common.kinds import Int, Pointer, Region
 from ..common.refusals import Refused
 from .first_members import join
 from .meetings import differ, handed_by_pointer
@@ -72,9 +72,18 @@ def by_bytes(points: "PointsTo", node: tree.FuncCall, model: Model) -> None:
     )
     if model.name == "memset" and points.constants.value(arguments(node)[1]) != 0:
         whole = False
-    if known and not whole:
-        for one in regions:
+    inner = any(has_raw(one) for one in regions)
+    for one in regions:
+        if known and (inner or not whole):
             points.as_bytes(one, [one.type], node.coord)
+        elif inner:
+            cause = f"{model.name} of objects with members that stand as their bytes"
+            one.fault = one.fault or (node.coord, cause, "assign the members")
+
+
+def has_raw(region: Region) -> bool:
+    """Whether members of a region's elements stand as their bytes."""
+    return any(one.root().raw or has_raw(one.root()) for one in region.root().members.values())
 
 
 def is_whole(points: "PointsTo", node: tree.FuncCall, model: Model, size: int) -> bool:
