@@ -212,6 +212,8 @@ class Bindings:
             if None in handed_on:
                 return False
             targets.append(self.target(given, parameter in lent))
+            if targets[-1].view is not None:
+                raise Refused(given.coord, "a part of a union is handed over", "hand over the union")
         if parameter in lent:
             return self.bound_array(parameter, targets, bool(function.calls))
         one = targets[0] if targets else None

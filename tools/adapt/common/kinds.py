@@ -291,6 +291,13 @@ def is_mixed(of: Type) -> bool:
     return (of.union and of.members is not None and not of.carrier) or any(is_mixed(one) for _, one in of.held)
 
 
+def has_others(of: Type) -> bool:
+    """Whether an object has parts that aren't written but by their bytes, as floating point numbers."""
+    if isinstance(of, Array):
+        return has_others(of.of)
+    return any(has_others(one) for _, one in of.members or []) if isinstance(of, Struct) else isinstance(of, Other)
+
+
 def alignment(of: Type) -> int:
     """To how many bytes gcc aligns a type on x86-64: the number divides each address."""
     if isinstance(of, Struct):

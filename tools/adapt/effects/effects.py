@@ -72,6 +72,21 @@ def alike(one: tree.Node, other: tree.Node) -> bool:
     return sign(one) == sign(other) and sign(one) not in STEPS and all(alike(mine, theirs) for mine, theirs in pairs)
 
 
+def opened(node: tree.Node) -> list[tree.Node]:
+    """The nodes of a value between whose side effects and what uses the value C has no sequence point: none within a call, whose
+    arguments come before it (6.5.2.2p10), and none before a comma, `&&`, `||` or `?` (6.5.13p4, 6.5.15p4, 6.5.17p2)."""
+    found, rest = list[tree.Node](), [node]
+    while rest:
+        one = rest.pop()
+        found.append(one)
+        if isinstance(one, (tree.FuncCall, tree.StatementExpr)):
+            continue
+        parts = list(one.parts())
+        ordered = isinstance(one, (tree.ExprList, tree.TernaryOp)) or sign(one) in ("&&", "||")
+        rest += parts[-1:] if ordered and not isinstance(one, tree.TernaryOp) else parts[1:] if ordered else parts
+    return found
+
+
 def sign(node: tree.Node) -> str:
     """The operator of an expression."""
     if isinstance(node, (tree.UnaryOp, tree.BinaryOp)):
@@ -285,7 +300,7 @@ class Effected:
                 region = self.columns.pointer(argument).region.root()
             except Refused:
                 continue
-            if region.column is None:
+            if region.column is None or region.fault:
                 continue
             at = [self.columns.leaf_at(region, leaf.path) for leaf in leaves(region.type)]
             whole: dict[Object, bool] = {(variable, path, True): True for variable, path, _, _ in at}

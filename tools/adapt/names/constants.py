@@ -15,8 +15,22 @@ from .listed import Listed
 if TYPE_CHECKING:
     from .names import Names
 
-ESCAPES = {"n": 10, "t": 9, "r": 13, "a": 7, "b": 8, "f": 12, "v": 11, "\\": 92, "'": 39, '"': 34, "?": 63, "e": 27}
-ESCAPE = re.compile(r"\\x([0-9A-Fa-f]+)|\\([0-7]{1,3})|\\(.)|([^\\])")
+ESCAPES = {
+    "n": 10,
+    "t": 9,
+    "r": 13,
+    "a": 7,
+    "b": 8,
+    "f": 12,
+    "v": 11,
+    "\\": 92,
+    "'": 39,
+    '"': 34,
+    "?": 63,
+    "e": 27,
+    "E": 27,
+}
+ESCAPE = re.compile(r"\\x([0-9A-Fa-f]+)|\\([0-7]{1,3})|\\(?:u([0-9A-Fa-f]{4})|U([0-9A-Fa-f]{8}))|\\(.)|([^\\])")
 ARITHMETIC: dict[str, Callable[[int, int], int]] = {
     "+": lambda a, b: a + b,
     "-": lambda a, b: a - b,
@@ -49,13 +63,30 @@ def character(text: str) -> Int:
     return WIDE.get(text[: text.index('"')], kinds.Int(8, True, "char"))
 
 
+def units(code: int, kind: Int) -> list[int]:
+    """The elements of a string that a character becomes, in UTF-8, UTF-16 or UTF-32 as gcc has them; a byte that is no UTF-8 stays."""
+    if code < 128 or kind.bits == 32:
+        return [code]
+    if kind.bits == 16:
+        return [code] if code < 1 << 16 else [0xD7C0 + (code >> 10), 0xDC00 + (code & 0x3FF)]
+    return list(chr(code).encode("utf-8", "surrogateescape"))
+
+
 def codes(text: str) -> list[int]:
-    """The values of the characters between the quotes of a constant or a string, each as one of its elements."""
+    """The values of the characters between the quotes of a constant or a string, as its elements (6.4.4.4, 6.4.5p6)."""
     found, kind = [], character(text) if text.endswith('"') else kinds.Int(8, True, "char")
-    for hexadecimal, octal, simple, plain in ESCAPE.findall(text[text.index(text[-1]) + 1 : -1]):
-        code = ESCAPES[simple] if simple else ord(plain or "0")
-        code = int(hexadecimal, 16) if hexadecimal else int(octal, 8) if octal else code
-        found.append(fit(code, kind))
+    for hexadecimal, octal, short, long, simple, plain in ESCAPE.findall(text[text.index(text[-1]) + 1 : -1]):
+        if hexadecimal or octal or simple:
+            made = [
+                int(hexadecimal, 16)
+                if hexadecimal
+                else int(octal, 8)
+                if octal
+                else ESCAPES.get(simple, ord(simple or "0"))
+            ]
+        else:
+            made = units(int(short or long, 16) if short or long else ord(plain), kind)
+        found += [fit(one, kind) for one in made]
     return found
 
 

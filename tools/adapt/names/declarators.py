@@ -112,10 +112,20 @@ class Declarators:
                 made.fault = made.fault or cause
                 continue
             of = self.usable(one.type)
+            if isinstance(of, Other) and self.is_open(one.type):
+                made.fault = made.fault or (one.coord, of.name, of.advice)
             members.append((one.name, of))
             made.declared.append((one.name, of, None))
         made.members = members
         return made
+
+    def is_open(self, node: tree.TypeNode) -> bool:
+        """Whether a declarator is an array whose length is no constant, so that nothing is known of a struct's size (GNU C)."""
+        while isinstance(node, tree.ArrayDecl):
+            if node.dim is not None and self.names.constants.value(node.dim) is None:
+                return True
+            node = node.type
+        return False
 
     def bit_field(self, made: Struct, node: tree.Decl) -> list[tuple[str, Type]]:
         """A bit-field, which is an integer of its own; one without a name only takes place (6.7.2.1p9 to p12)."""

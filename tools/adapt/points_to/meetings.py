@@ -34,6 +34,7 @@ def visit(points: "PointsTo", node: tree.Node) -> None:
             if isinstance(of, Pointer):
                 root = of.region.root()
                 root.moved, root.down = True, root.down or "--" in node.op
+                points.moves_by_bytes(of, node.coord)
         elif isinstance(node, tree.BinaryOp):
             compared(points, node)
         elif isinstance(node, (tree.ArrayRef, tree.StructRef)) or (isinstance(node, tree.UnaryOp) and node.op == "*"):
@@ -48,6 +49,7 @@ def assigned(points: "PointsTo", node: tree.Assignment) -> None:
     """An assignment: the value becomes one of the target's type, or the target moves."""
     to = points.value(node.lvalue)
     if isinstance(to, Pointer) and node.op in ("+=", "-="):
+        points.moves_by_bytes(to, node.coord)
         points.moves(to.region, node.rvalue, node.op == "-=")
     elif node.op == "=":
         points.flow(node.rvalue, to)

@@ -29,6 +29,7 @@ class PointsTo(Unification):
         self.firsts: dict[tree.Node, FirstMember] = {}
         self.parts: list[tuple[Region, Region, Optional[tree.Coord]]] = []
         self.modelled: list[tuple[tree.FuncCall, Model]] = []
+        self.by_bytes: list[tuple[Region, Optional[tree.Coord]]] = []  # those in which a pointer to void moves
         super().__init__()
         self.texts: dict[tree.Node, Variable] = {}
         self.values: dict[tree.Node, Type] = {}
@@ -243,6 +244,8 @@ class PointsTo(Unification):
     def sum(self, node: tree.BinaryOp) -> Type:
         """The type of a sum or a difference, by which a pointer moves (6.5.6p8)."""
         left, right = self.value(node.left), self.value(node.right)
+        for one in (left, right):
+            self.moves_by_bytes(one, node.coord)
         if isinstance(left, Pointer) and isinstance(right, Pointer):
             self.unify(left.region, right.region, node.coord)
             return kinds.LONG
@@ -262,6 +265,11 @@ class PointsTo(Unification):
             root.moved, root.down = True, root.down or back or not isinstance(of, Int) or of.signed
         elif known:
             root.moved, root.down = True, root.down or (known < 0) != back
+
+    def moves_by_bytes(self, of: Type, at: Optional[tree.Coord]) -> None:
+        """A pointer to void moves by bytes (gcc's manual, Pointer Arith)."""
+        if isinstance(of, Pointer) and of.to == kinds.VOID:
+            self.by_bytes.append((of.region, at))
 
     def is_null(self, node: tree.Expression) -> bool:
         """Whether an expression is a null pointer constant (6.3.2.3p3)."""

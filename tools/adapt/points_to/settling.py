@@ -5,7 +5,7 @@ from typing import TYPE_CHECKING
 
 from ..bind.places import arguments
 from ..common import kinds, tree
-from ..common.kinds import Int, Pointer
+from ..common.kinds import Int, Pointer, Region
 from ..common.refusals import Refused
 from .first_members import join
 from .meetings import differ, handed_by_pointer
@@ -18,11 +18,11 @@ if TYPE_CHECKING:
 def settle(points: "PointsTo") -> None:
     """Lets objects stand as their bytes where something needs them: parts of a union that are pointed to, unions whose members
     have no common form, and memory that is copied, set or compared by bytes."""
-    for variable in points.names.variables:
-        if kinds.is_mixed(variable.type):
-            points.home(variable)
     before, done, joined = -1, set[tree.Node](), 0
     while before != raws(points) + len(done) + joined:
+        for variable in points.names.variables:
+            if kinds.is_mixed(variable.type):
+                points.home(variable)
         before = raws(points) + len(done) + joined
         handed_by_pointer(points, done)
         joined += join(points)
@@ -35,9 +35,13 @@ def settle(points: "PointsTo") -> None:
         for variable, region in list(points.homes.items()):
             if kinds.is_mixed(variable.type) and not region.root().raw:
                 points.as_bytes(region, [region.root().type], variable.coord)
-        for of in pointers(points):
-            if kinds.is_mixed(of.to) and not of.region.root().raw:
-                points.as_bytes(of.region, [of.to], None)
+        for one in pointers(points):
+            if kinds.is_mixed(one.to) and not one.region.root().raw:
+                points.as_bytes(one.region, [one.to], None)
+        for region, at in points.by_bytes:
+            of = region.root().type
+            if not region.root().raw and of != kinds.VOID and not (isinstance(of, Int) and of.bits == 8):
+                points.as_bytes(region, [of], at)
         for node, model in points.modelled:
             by_bytes(points, node, model)
 
@@ -68,9 +72,18 @@ def by_bytes(points: "PointsTo", node: tree.FuncCall, model: Model) -> None:
     )
     if model.name == "memset" and points.constants.value(arguments(node)[1]) != 0:
         whole = False
-    if known and not whole:
-        for one in regions:
+    inner = any(has_raw(one) for one in regions)
+    for one in regions:
+        if known and (inner or not whole):
             points.as_bytes(one, [one.type], node.coord)
+        elif inner:
+            cause = f"{model.name} of objects with members that stand as their bytes"
+            one.fault = one.fault or (node.coord, cause, "assign the members")
+
+
+def has_raw(region: Region) -> bool:
+    """Whether members of a region's elements stand as their bytes."""
+    return any(one.root().raw or has_raw(one.root()) for one in region.root().members.values())
 
 
 def is_whole(points: "PointsTo", node: tree.FuncCall, model: Model, size: int) -> bool:

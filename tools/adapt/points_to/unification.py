@@ -20,6 +20,17 @@ def words(of: Type) -> str:
     return of.text if isinstance(of, Int) else "pointer" if isinstance(of, Pointer) else "array"
 
 
+def whole_again(of: Type) -> None:
+    """As its bytes an object has all of them: also members that nothing names, and a union what is no part of its carrier."""
+    of = kinds.element(of)
+    if isinstance(of, Struct) and not of.fault:
+        of.dead.clear()
+        if of.union and of.carrier and kinds.size(of.carrier[1]) != kinds.size(of):
+            of.carrier = None
+        for _, member in of.members or []:
+            whole_again(member)
+
+
 class Unification:
     """The regions of variables, and what makes two regions one."""
 
@@ -50,14 +61,11 @@ class Unification:
         a.elem = right if left is None or self.is_open(left) else left
         if a.raw or b.raw:
             self.as_bytes(a, [one for one in (left, right) if one is not None], at)
-            members, b.members = b.members, {}
-            for inner in members.values():
-                self.unify(a, inner, at)
-            return
-        if left is not None and right is not None and not self.is_open(left) and not self.is_open(right):
+        elif left is not None and right is not None and not self.is_open(left) and not self.is_open(right):
             self.same_type(left, right, at, a)
-        for name, inner in list(b.members.items()):
-            mine = a.root().members.get(name)
+        members, b.members = b.members, {}
+        for name, inner in members.items():
+            mine = a.root() if a.root().raw else a.root().members.get(name)
             if mine is None:
                 a.root().members[name] = inner
             else:
@@ -81,6 +89,8 @@ class Unification:
             cause = f"a pointer to {words(bad[0])} and to {words(next((one for one in types if one is not bad[0]), bad[0]))}"
             root.fault = root.fault or (at, cause, ADVICE)
             return
+        for one in [*types, *(variable.type for variable in root.objects)]:
+            whole_again(one)
         root.raw = root.pointed = root.moved = True
         root.elem = kinds.Int(8, False, "unsigned char")
         members, root.members = root.members, {}

@@ -65,12 +65,16 @@ HEADERS_LEFT_OUT = {
 ATTRIBUTE = re.compile(r"\b__attribute(?:__)?\b\s*\(((?:[^()]|\((?:[^()]|\((?:[^()]|\([^()]*\))*\))*\))*)\)")
 # builtin functions of the compiler, by what they say in C; the others that have a model stand in models/
 BUILTINS = [
-    "__builtin_expect(e, c)=(e)",
+    "__builtin_expect(e, c)=((long) (e))",
     "__builtin_constant_p(e)=0",
     "__builtin_unreachable()=abort()",
     "__builtin_trap()=abort()",
 ]
-BUILTINS += ["__builtin_prefetch(...)=((void) 0)", "__builtin_assume_aligned(p, ...)=(p)", "__builtin_LINE()=__LINE__"]
+BUILTINS += [
+    "__builtin_prefetch(p, ...)=((void) (p))",
+    "__builtin_assume_aligned(p, ...)=(p)",
+    "__builtin_LINE()=__LINE__",
+]
 BUILTINS += [
     f"__builtin_{name}={name}"
     for name in "abort abs labs llabs memcpy memmove memset memcmp memchr strlen strcpy strncpy strcat strncat strcmp strncmp strchr "
@@ -79,6 +83,8 @@ BUILTINS += [
 SAME_WORD = {"__asm__": "asm", "__asm": "asm"}
 WORDS = re.compile(r'"(?:\\.|[^"\\])*"|\'(?:\\.|[^\'\\])*\'|[A-Za-z_]\w*|[{}]|[^\sA-Za-z_"\'{}]+')
 QUOTED = re.compile(r'"(?:\\.|[^"\\])*"|\'(?:\\.|[^\'\\])*\'')
+STRING = re.compile(r'(?:\b(?:u8|[LuU]))?"(?:\\.|[^"\\])*"|\'(?:\\.|[^\'\\])*\'')
+LAST_ESCAPE = re.compile(r'(?<!\\)(?:\\\\)*(\\(?:x([0-9A-Fa-f]+)|([0-7]{1,2})))"$')
 MARKER = re.compile(r'#\s*(?:line\s+)?(\d+)\s+"((?:\\.|[^"\\])*)"([ \d]*)')
 
 
@@ -99,7 +105,9 @@ def run_compiler(path: str, flags: list[str], more: list[str]) -> subprocess.Com
     """Runs the compiler on a source with our headers alone."""
     words = [compiler(), "-std=gnu11", "-nostdinc", *more, *flags, "-isystem", HEADERS, "-x", "c", path]
     plain = {**os.environ, "LC_ALL": "C"}
-    return subprocess.run(words, capture_output=True, text=True, errors="replace", check=False, env=plain)
+    return subprocess.run(  # (bytes that aren't UTF-8 stay what they are)
+        words, capture_output=True, encoding="utf-8", errors="surrogateescape", check=False, env=plain
+    )
 
 
 @cache
@@ -146,7 +154,10 @@ def decoration(inner: str, refusals: Refusals, at: tree.Coord) -> str:
 
 
 def without_foreign(text: str, refusals: Refusals, at: tree.Coord) -> str:
-    """A line without assembly and attributes, so that the parser can go on behind them."""
+    """A line without assembly and attributes, so that the parser can go on behind them; its strings are what they were."""
+    kept: list[str] = QUOTED.findall(text)
+    numbers = iter(range(len(kept)))
+    text = QUOTED.sub(lambda _: f'"{next(numbers)}"', text) if kept else text
     for word in re.findall(r"[A-Za-z_]\w*", text):
         name = SAME_WORD.get(word, word)
         if name in FOREIGN:
@@ -154,11 +165,26 @@ def without_foreign(text: str, refusals: Refusals, at: tree.Coord) -> str:
             refusals.add(at, cause, advice)
     text = re.sub(r"\b(?:__\w+|_Noreturn)\b", lambda found: PLAIN.get(found.group(), found.group()), text)
     text = ATTRIBUTE.sub(lambda found: decoration(found.group(1), refusals, at), text)
-    return re.sub(
+    text = re.sub(
         r"\b(__asm__|__asm|asm)\b\s*(volatile|__volatile__|goto)?\s*\((?:[^()]|\((?:[^()]|\([^()]*\))*\))*\)",
         " ",
         text,
     )
+    return QUOTED.sub(lambda found: kept[int(found.group()[1:-1])], text) if kept else text
+
+
+def ended(row: str) -> str:
+    """A row whose strings, where others may follow them, end in escapes that don't take the first digits of these (5.1.1.2p1)."""
+
+    def closed(found: "re.Match[str]") -> str:
+        escape, behind = LAST_ESCAPE.search(found.group()), row[found.end() :].lstrip()
+        if not escape or (behind and not re.match(r'(?:u8|[LuU])?"', behind)):
+            return found.group()
+        code = int(escape.group(2), 16) if escape.group(2) else int(escape.group(3), 8)
+        text = f"\\{code % 256:03o}" if found.group().startswith(('"', "u8")) else f"\\U{code:08x}"
+        return f'{found.group()[: escape.start(1)]}{text}"'
+
+    return STRING.sub(closed, row) if "\\" in row else row
 
 
 class Places:
@@ -222,7 +248,7 @@ def scanned(unit: Unit, text: str, refusals: Refusals) -> str:
         if not is_system(file):
             if "$" in QUOTED.sub("", row):
                 refusals.add(tree.Coord(file, line), "a name with $", "write it with letters, digits and _")
-            row = without_foreign(row, refusals, tree.Coord(file, line))
+            row = ended(without_foreign(row, refusals, tree.Coord(file, line)))
             unit.words.update(re.findall(r"[A-Za-z_]\w*", row))
         for found in WORDS.finditer(row):
             if found.group() == "{":

@@ -10,7 +10,7 @@ from ..common.objects import Place, Variable
 from ..common.output import unmarked
 from ..common.refusals import Refused
 from ..common.tree import walk
-from ..effects.effects import STEPS, alike
+from ..effects.effects import STEPS, Object, alike, opened
 from ..names.constants import LOGICAL
 from ..names.ranges import within
 from . import statement_exprs
@@ -128,17 +128,24 @@ class Assignments(Component):
         return Value(f"{own.within(level)} {op} {given.within(level + 1)}", kinds.common(own.kind, given.kind), level)
 
     def not_twice(self, node: tree.Expression, place: Place, value: tree.Expression) -> None:
-        """An object that isn't an element may not be assigned once more by the value. Raises Refused where it is
-        (6.5p2)."""
+        """An object may not be assigned once more by the value, but where that is done before the value is there, as in an argument of
+        a call. Raises Refused where it is (6.5p2, 6.5.16p3)."""
         one, effects = (place.variable, place.path, bool(place.indexes)), self.writer.effected.of(value)
         writes, target = effects.writes, node.lvalue if isinstance(node, tree.Assignment) else node
-        again = any(written and alike(target, named) for _, named, written in effects.elements)
-        if again or (not one[2] and one in writes and not writes[one]):
+        within = set(opened(value)) if writes else set[tree.Node]()
+        again = any(written and named in within and alike(target, named) for _, named, written in effects.elements)
+        if again or (not one[2] and one in writes and not writes[one] and self.is_set(one, within)):
             raise Refused(
                 node.coord,
                 f"{place.variable.name} is assigned twice, in an order that C leaves open",
                 "use two statements",
             )
+
+    def is_set(self, one: Object, within: set[tree.Node]) -> bool:
+        """Whether an assignment or a step among some nodes is one of an object."""
+        targets = [node.lvalue for node in within if isinstance(node, tree.Assignment)]
+        targets += [node.expr for node in within if isinstance(node, tree.UnaryOp) and node.op in STEPS]
+        return any(one in self.writer.effected.of(target).reads for target in targets)
 
     def step(self, node: tree.UnaryOp, stable: bool = False) -> tuple[str, Int]:
         """The text and the type of what `++` or `--` steps. Raises Refused for what is no integer, or is bool."""

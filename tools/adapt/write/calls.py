@@ -118,6 +118,8 @@ class Calls(Component):
             texts.extend(self.handed(place, argument, None))
         else:
             place = self.writer.effected.target(argument, parameter)
+            if place.view is not None:
+                raise Refused(argument.coord, "a part of a union is handed over", "hand over the union")
             index = self.writer.elements.index(place, True, True)
             texts.extend(self.handed(place, argument, index))
             back = {leaf.path for one, leaf in self.writer.order.outs(function) if one is parameter}

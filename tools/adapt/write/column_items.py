@@ -59,6 +59,7 @@ class ColumnItems(Component):
                 continue
             while len(values) > 1 and values[-1] == "0":
                 values.pop()
+            values = [f"{one}ul" if one.isdecimal() and int(one) >> 63 else one for one in values]
             first = "" if values == ["0"] else f" = {{{', '.join(values)}}}"
             words = "static const " if column.const else "static "
             self.writer.emit(
@@ -77,6 +78,8 @@ class ColumnItems(Component):
                 continue
             self.writer.names.refusals.go(variable.coord)
             with self.writer.names.refusals.gathered():
+                if region is not None and region.root().raw:
+                    self.writer.raw.check_whole(variable.type, variable.coord)
                 made = filled(self.writer.constants, variable.type, variable.init)
                 for _, _, source in made.wholes:
                     raise Refused(source.coord, "a struct as the first value of a part", "give its members one by one")

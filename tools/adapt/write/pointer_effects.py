@@ -92,8 +92,11 @@ class PointerEffects(Component):
         return place
 
     def each_integer(self, place: Place, index: Optional[Value]) -> list[tuple[kinds.Leaf, list[str]]]:
-        """The integers of an object of which some lie in columns of their own."""
+        """The integers of an object of which some lie in columns of their own. Raises Refused for one that stands as its bytes and
+        has floating point numbers."""
         base = place
+        if self.writer.places.is_raw(place):
+            self.writer.raw.check_whole(place.type, None)
         if self.writer.places.is_raw(place) and kinds.is_mixed(place.type):
             begin, column = index or self.writer.raw.index(place, True), self.writer.spelling.leaf(place.variable, ())
             count = kinds.size(place.type) or 0

@@ -4,7 +4,7 @@ union's members differ. An integer of more than a byte is read and set by two fu
 
 from dataclasses import replace
 from functools import partial
-from typing import TYPE_CHECKING, Union
+from typing import TYPE_CHECKING, Optional, Union
 
 from ..bind.initialisers import Filled
 from ..bind.places import At, Level
@@ -12,6 +12,7 @@ from ..bind.values import PRIMARY, UNARY, Known, Value, number, plus, times
 from ..common import kinds, tree
 from ..common.kinds import BEGIN, END, MOST_INDEX, NIL, Int, Leaf
 from ..common.objects import Place
+from ..common.refusals import Refused
 from ..names.ranges import SMALL, Range, within
 from .component import Component
 from .large import Large
@@ -73,6 +74,14 @@ class Raw(Component):
     def front(self) -> list[str]:
         """What stands in front of all else."""
         return list(self.texts.values())
+
+    @staticmethod
+    def check_whole(of: kinds.Type, at: Optional[tree.Coord]) -> None:
+        """Refuses an object that is copied, or gets values, whole by its integers, which have not all of its bytes. Raises Refused
+        then."""
+        if kinds.has_others(of):
+            cause = "a struct with a floating point number, which stands as its bytes, is copied or gets values whole"
+            raise Refused(at, cause, "copy it by memcpy, or set its members")
 
     # ---- first values
 
