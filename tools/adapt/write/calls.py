@@ -97,7 +97,7 @@ class Calls(Component):
     def argument(
         self, argument: tree.Expression, parameter: Variable, function: Function, texts: list[str], after: list[str]
     ) -> None:
-        """What stands for an argument, and what follows the call for it."""
+        """What stands for an argument, and what follows the call for it. Raises Refused for a part of a union."""
         if isinstance(parameter.type, Int):
             texts.append(
                 self.writer.conversions.converted(self.writer.expressions.value(argument), parameter.type).text
