@@ -18,15 +18,15 @@ use Rattle.goal_formula.proofs.Rooms.{unwindings_leave_room_law}
 use Rattle.goal_formula.specs.Bits.{Gives, input_from, input_variables}
 use Rattle.goal_formula.specs.Forms.{IsFormulaOf}
 use Rattle.goal_formula.specs.declared.goal.GoalFormula.{GoalFormula}
-use Rattle.input_words.proofs.WorldLemmas.{length-world_of}
-use Rattle.input_words.specs.Worlds.{world_length, world_of}
-use Rattle.reached.specs.declared.bounds.Bounds.{Bounds}
+use Rattle.unwinder.proofs.input_words.WorldLemmas.{length-world_of}
+use Rattle.unwinder.specs.input_words.Worlds.{world_length, world_of}
+use Rattle.unwinder_reach.specs.declared.reached.bounds.Bounds.{Bounds}
 use Rattle.unwinder.proofs.Made.{parameter_kinds}
 use Rattle.unwinder.specs.Lists.{entries_in}
 use Rattle.unwinder.specs.Unwinding.{IsUnwound}
 use Rattle.unwinder.specs.declared.unwound.Entry.{Entry}
 use Rattle.unwinder.specs.declared.unwound.Unwound.{Unwound}
-use Rattle.unwound_laws.proofs.Leaving.{none_has_ended}
+use Rattle.goal_formula_laws.proofs.unwound_laws.Leaving.{none_has_ended}
 use Rattle.bounds_check.specs.Leaving.{IsExactForLeaving, no_predicates}
 use Rattle.bounds_check.specs.Parts.{CanSay, SaysOpen}
 use Rattle.bounds_check.proofs.Opening.{all_fail, none_passes, not_true}

@@ -13,8 +13,8 @@ use Rattle.cfa.specs.declared.parts.GraphParts.{GraphParts}
 use Rattle.goal_formula.proofs.InputWorlds.{input_given}
 use Rattle.goal_formula.specs.Bits.{assignment, input_from, number_in, words_in}
 use Rattle.goal_formula.specs.declared.goal.GoalFormula.{GoalFormula}
-use Rattle.reached.specs.declared.bounds.Bounds.{Bounds}
-use Rattle.run_laws.proofs.Taken.{answers_alike}
+use Rattle.unwinder_reach.specs.declared.reached.bounds.Bounds.{Bounds}
+use Rattle.measurer_hits.proofs.run_laws.Taken.{answers_alike}
 use Rattle.search.specs.Nexts.{IsModel}
 use Rattle.unwinder.proofs.Made.{parameter_kinds}
 use Rattle.bounds_check.specs.Leaving.{IsExactForLeaving, Leaves, no_predicates}

@@ -8,7 +8,7 @@ use Rattle.cnf.specs.Checks.{Checks}
 use Rattle.cnf.specs.declared.derivation.Derivation.{Derivation}
 use Rattle.cnf.specs.declared.formula.Formula.{Formula}
 use Rattle.goal_formula.specs.declared.goal.GoalFormula.{GoalFormula}
-use Rattle.reached.specs.declared.bounds.Bounds.{Bounds}
+use Rattle.unwinder_reach.specs.declared.reached.bounds.Bounds.{Bounds}
 use Rattle.search.proofs.HistoryLaws.{histories_end_law}
 use Rattle.search.specs.declared.moves.History.{History}
 use Rattle.bounds_check.specs.Laws.{DerivationsSuffice}

@@ -9,8 +9,8 @@ use Rattle.cnf.specs.declared.derivation.Derivation.{Derivation}
 use Rattle.cnf.specs.declared.formula.Formula.{Formula}
 use Rattle.goals.specs.GoalForm.{GoalForm}
 use Rattle.goals.specs.declared.plan.Plan.{Plan}
-use Rattle.hits.specs.Inputs.{InputHits, InputHitsWithin}
-use Rattle.reached.specs.declared.bounds.Bounds.{Bounds}
+use Rattle.measurer_hits.specs.hits.Inputs.{InputHits, InputHitsWithin}
+use Rattle.unwinder_reach.specs.declared.reached.bounds.Bounds.{Bounds}
 use Rattle.unwinder.specs.Lists.{IsInputFor}
 use Rattle.bounds_check.specs.Leaving.{IsForLeaving, NoneLeaves}
 

@@ -14,13 +14,13 @@ use Rattle.cnf.specs.declared.formula.Formula.{Formula}
 use Rattle.goal_formula.specs.Bits.{AreInputsApart, AreInputsOver, Gives, IsShaped, input_from, input_variables}
 use Rattle.goal_formula.specs.Forms.{IsConeForm}
 use Rattle.goal_formula.specs.declared.goal.GoalFormula.{GoalFormula}
-use Rattle.input_words.specs.Worlds.{world_length, world_of}
-use Rattle.reached.specs.Reaching.{AreReached}
-use Rattle.reached.specs.declared.bounds.Bounds.{Bounds}
-use Rattle.reached.specs.declared.step.Step.{Step}
-use Rattle.run_laws.specs.Leaving.{LeavesBounds}
+use Rattle.unwinder.specs.input_words.Worlds.{world_length, world_of}
+use Rattle.unwinder_reach.specs.reached.Reaching.{AreReached}
+use Rattle.unwinder_reach.specs.declared.reached.bounds.Bounds.{Bounds}
+use Rattle.unwinder_reach.specs.declared.reached.step.Step.{Step}
+use Rattle.measurer_hits.specs.run_laws.Leaving.{LeavesBounds}
 use Rattle.unwinder.specs.Lists.{IsInputFor}
-use Rattle.unwinding_size.specs.Sizes.{size_sum}
+use Rattle.unwinder_reach.specs.unwinding_size.Sizes.{size_sum}
 
 -- whether an input leaves bounds is no question of predicates
 abbrev pub no_predicates : Predicates

@@ -11,7 +11,7 @@ use Rattle.circuit.specs.declared.lit.Lit.{Lit}
 use Rattle.goal_formula.specs.Forms.{IsFormulaOf}
 use Rattle.goal_formula.specs.Steps.{HasWires}
 use Rattle.goal_formula.specs.declared.goal.GoalFormula.{GoalFormula}
-use Rattle.input_words.specs.Worlds.{world_length}
+use Rattle.unwinder.specs.input_words.Worlds.{world_length}
 use Rattle.unwinder.specs.Lists.{entries_in}
 use Rattle.unwinder.specs.declared.unwound.Entry.{Entry}
 use Rattle.unwinder.specs.declared.unwound.Unwound.{Unwound}

@@ -8,13 +8,13 @@ use Rattle.cfa.specs.Contexts.{Pair}
 use Rattle.cfa.specs.declared.parts.Function.{Function}
 use Rattle.cfa.specs.declared.parts.GraphParts.{GraphParts}
 use Rattle.cnf.specs.declared.formula.Formula.{Formula}
-use Rattle.reached.specs.Reaching.{AreReached}
-use Rattle.reached.specs.declared.bounds.Bounds.{Bounds}
-use Rattle.reached.specs.declared.step.Step.{Step}
+use Rattle.unwinder_reach.specs.reached.Reaching.{AreReached}
+use Rattle.unwinder_reach.specs.declared.reached.bounds.Bounds.{Bounds}
+use Rattle.unwinder_reach.specs.declared.reached.step.Step.{Step}
 use Rattle.search.specs.Nexts.{IsFound, IsRefutation}
 use Rattle.search.specs.declared.found.Found.TheVariants.{Spent}
 use Rattle.search.specs.declared.moves.History.{History}
-use Rattle.unwinding_size.specs.Sizes.{size_sum}
+use Rattle.unwinder_reach.specs.unwinding_size.Sizes.{size_sum}
 use Rattle.bounds_check.specs.Leaving.{IsForLeaving, Leaves, NoneLeaves, most_variables, no_predicates}
 use Rattle.bounds_check.specs.declared.suffice.Suffice.{Suffice}
 use Rattle.bounds_check.specs.declared.suffice.Suffice.TheVariants.{Left, Open, Yes}

@@ -1,8 +1,8 @@
 // How far runs go.
 ghost use Rattle.std.specs.Prelude.{◌≤◌};
 
-use given::Entry;
-use reached::Bounds;
+use suite_problem::Entry;
+use unwinder_reach::reached::Bounds;
 
 /// An entry, and bounds of the runs from it.
 #[derive(Clone, Copy)]

@@ -3,7 +3,7 @@
 //! Start at [`bounds_suffice`] in sufficing.rt. It unwinds the runs of a function within bounds, where any end counts
 //! (`unwinder`): by unwound_laws an input leaves the bounds exactly where no entry that holds in its world has ended. One
 //! literal of the unwinding's circuit says so, and goal_formula gives its formula (`staying.rt`), which is searched (`search`).
-//! A model is an input that leaves the bounds (`leaving.rt`); a derivation is confirmed (`confirmation`) before the bounds are
+//! A model is an input that leaves the bounds (`leaving.rt`); a derivation is confirmed (`search_checked`) before the bounds are
 //! said to suffice; a search that spent its budget is handed out with its formula. [`bounds_formula`] in formula.rt gives that
 //! formula alone, for whoever checks a derivation over it.
 //!

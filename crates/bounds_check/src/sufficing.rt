@@ -8,10 +8,10 @@ use crate::staying::open_formula;
 use crate::suffice::Suffice;
 use c_meaning::Ends;
 use cfa::Predicates;
-use confirmation::{Outcome, outcome};
 use containers::Vector;
 use fq_core::{Fault, Memory};
 use goal_formula::GoalFormula;
+use search_checked::{Outcome, outcome};
 use std::alloc::Global;
 use unwinder::unwind;
 

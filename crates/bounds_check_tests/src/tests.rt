@@ -8,11 +8,11 @@ use c_front::automaton_of_texts;
 use c_meaning::Input;
 use cfa::Graph;
 use fq_core::{Fault, Place};
-use given::Entry;
-use reached::Bounds;
 use std::alloc::{AllocError, Global};
 use std::test::Fail;
+use suite_problem::Entry;
 use test_programs::texts_of;
+use unwinder_reach::reached::Bounds;
 
 // A program, the turns, the frames and the answers, the budget, and whether they suffice for `f`.
 type Row = (&'static str, u32, u32, u32, u64, &'static str);

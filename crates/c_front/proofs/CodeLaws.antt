@@ -21,7 +21,7 @@ use Rattle.c_parse.specs.UnitForm as unit
 use Rattle.fq_core.specs.declared.span.Span.{Span}
 use Rattle.c_front.specs.Automata.{at_edges, at_tokens, at_types, at_unit}
 use Rattle.c_front.specs.Codes.{RefusedByTheseCodes, text_codes}
-use Rattle.typing_faults.specs.Laws.{FaultsOfTexts, IsOneOf, IsTypingCode, typing_codes}
+use Rattle.c_types_laws.specs.typing_faults.Laws.{FaultsOfTexts, IsOneOf, IsTypingCode, typing_codes}
 
 abbrev Told : ℕ → Type 0
 Told = IsOneOf text_codes

@@ -14,11 +14,11 @@ use Rattle.c_parse.specs.declared.unit.Item.{Item}
 use Rattle.c_parse.specs.Laws as parse
 use Rattle.c_parse.specs.Signs.{terminal_of}
 use Rattle.c_parse.specs.UnitForm.{IsUnit, IsRefusedUnit}
-use Rattle.expression_types.specs.declared.faults.Found.{Found}
-use Rattle.expression_types.specs.Faults.{Among, FirstOfFaults, first_of}
+use Rattle.c_type_rules.specs.declared.faults.Found.{Found}
+use Rattle.c_type_rules.specs.Faults.{Among, FirstOfFaults, first_of}
 use Rattle.c_types.specs.Refusal as types
 use Rattle.c_types.specs.Units.{faults_of}
-use Rattle.typing_faults.specs.Laws.{OneRefusal}
+use Rattle.c_types_laws.specs.typing_faults.Laws.{OneRefusal}
 use Rattle.cfa.specs.declared.parts.GraphParts.{GraphParts}
 use Rattle.c_front.specs.Automata.{IsAutomatonOf, IsRefused, IsUnitOf, at_edges, at_tokens, at_types, at_unit, automaton_of, most_edges}
 use Rattle.c_front.specs.Laws.{HasOneOutcome}

@@ -11,9 +11,9 @@ use Rattle.fq_core.specs.Refusals.{IsUnlessMemory, refusal}
 use Rattle.cfa.specs.declared.parts.GraphParts.{GraphParts}
 use Rattle.c_lex.specs.Lexed.{Answers}
 use Rattle.c_parse.specs.declared.unit.Item.{Item}
-use Rattle.typed_trees.specs.declared.unit.Typed.{Typed}
+use Rattle.c_typed_trees.specs.declared.unit.Typed.{Typed}
 use Rattle.c_types.specs.Refusal as types
-use Rattle.graph_of.specs.GraphOf.{graph_of}
+use Rattle.c_lower_rules.specs.graph_of.GraphOf.{graph_of}
 use Rattle.c_lower.specs.Refusal.{IsRefusalOf}
 use Rattle.c_front.specs.Automata.{IsAutomatonOf, IsRefused, IsUnitOf, at_edges, at_tokens, names_of}
 use Rattle.c_front.specs.Laws.{HasOneOutcome}

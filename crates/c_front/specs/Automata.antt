@@ -12,7 +12,7 @@ use Rattle.c_parse.specs.UnitForm.{IsUnit, IsRefusedUnit}
 use Rattle.c_types.specs.Refusal as types
 use Rattle.c_types.specs.Units.{faults_of, typed_of}
 use Rattle.cfa.specs.declared.parts.GraphParts.{GraphParts}
-use Rattle.graph_of.specs.GraphOf.{graph_of}
+use Rattle.c_lower_rules.specs.graph_of.GraphOf.{graph_of}
 
 -- the names of texts, in order
 abbrev pub names_of : List SourceText → List (List ℕ)

@@ -3,7 +3,7 @@ use Rattle.std.specs.Prelude.{ℕ, List, [], ◌∷◌, ◌++◌}
 use Rattle.fq_core.specs.declared.refusal.Place.{Place}
 use Rattle.c_lex.specs.declared.token.SourceText.{SourceText}
 use Rattle.c_front.specs.Automata.{IsRefused}
-use Rattle.typing_faults.specs.Laws.{IsOneOf, typing_codes}
+use Rattle.c_types_laws.specs.typing_faults.Laws.{IsOneOf, typing_codes}
 
 -- the codes of tokens, of syntax, of types, and of the number of edges
 abbrev pub text_codes : List ℕ

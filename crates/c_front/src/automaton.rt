@@ -12,11 +12,11 @@ use c_lex::{SourceText, tokens};
 use c_lower::lower;
 use c_parse::{Unit, parse};
 use c_types::check;
+use c_types_laws::typing_fits::laws::units_of_texts_fit;
 use cfa::Graph;
 use containers::{TryClone, Vector};
 use fq_core::{Fault, Name};
 use std::alloc::{AllocError, Global};
-use typing_fits::laws::units_of_texts_fit;
 
 // The names of texts.
 fn names(alloc: Global, texts: &[SourceText]) -> Result<Vector<Name>, AllocError>

@@ -6,8 +6,8 @@ ghost use Rattle.c_front.specs.Laws.{HasOneOutcome};
 
 use c_lex::one_reading;
 use c_parse::laws::one_unit_outcome;
-use expression_types::laws::first_of_faults;
-use typing_faults::laws::{faults_of_texts, one_refusal_of_types};
+use c_type_rules::laws::first_of_faults;
+use c_types_laws::typing_faults::laws::{faults_of_texts, one_refusal_of_types};
 
 /// Texts have one automaton, or are refused with one code at one place.
 pub fn one_outcome()

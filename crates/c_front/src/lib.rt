@@ -4,9 +4,14 @@
 //! for its automaton, and on the laws that join them. The layers above use the contract of [`automaton_of_texts`], which
 //! answers the automaton of its texts exactly where they have one and otherwise refuses them for the cause that
 //! `specs/Automata.antt` says, and the law of [`laws`]: texts have one outcome. Start at automaton.rt.
+//!
+//! It has these modules too:
+//!
+//! - [`typed_sources`]: The typed tree of C sources.
 #![tactic(auto)]
 
 mod automaton;
 pub mod laws;
+pub mod typed_sources;
 
 pub use automaton::automaton_of_texts;

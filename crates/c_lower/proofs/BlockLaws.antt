@@ -5,16 +5,16 @@ use Rattle.std.specs.Option.{option_map}
 use Rattle.std.proofs.lemmas.List.{drop_all}
 use Rattle.fq_core.specs.declared.span.Span.{Span}
 use Rattle.fq_core.specs.declared.statement_kind.StatementKind.TheVariants as kinds
-use Rattle.typed_trees.specs.declared.expression.TypedExpr.{TypedExpr}
-use Rattle.typed_trees.specs.declared.statement.TypedStatement.{TypedStatement}
-use Rattle.graph_of.specs.declared.parts.Around.{Around}
-use Rattle.graph_of.specs.declared.parts.Parts.{Parts}
-use Rattle.graph_of.specs.Builder.{node, after}
-use Rattle.graph_of.specs.Edges.{Lowering, stated, deciding, seeing, scope_behind, node_at, skip}
-use Rattle.graph_of.specs.Expressions.{value_of}
-use Rattle.graph_of.specs.Statements.{sequence, block_row, arms_row, arm_row, span_behind}
-use Rattle.graph_of.specs.Table.{lowered, piece}
-use Rattle.graph_of.proofs.After.{after_nil, after_numbered, after_node-length}
+use Rattle.c_typed_trees.specs.declared.expression.TypedExpr.{TypedExpr}
+use Rattle.c_typed_trees.specs.declared.statement.TypedStatement.{TypedStatement}
+use Rattle.c_lower_rules.specs.declared.graph_of.parts.Around.{Around}
+use Rattle.c_lower_rules.specs.declared.graph_of.parts.Parts.{Parts}
+use Rattle.c_lower_rules.specs.graph_of.Builder.{node, after}
+use Rattle.c_lower_rules.specs.graph_of.Edges.{Lowering, stated, deciding, seeing, scope_behind, node_at, skip}
+use Rattle.c_lower_rules.specs.graph_of.Expressions.{value_of}
+use Rattle.c_lower_rules.specs.graph_of.Statements.{sequence, block_row, arms_row, arm_row, span_behind}
+use Rattle.c_lower_rules.specs.graph_of.Table.{lowered, piece}
+use Rattle.c_lower_rules.proofs.graph_of.After.{after_nil, after_numbered, after_node-length}
 use Rattle.c_lower.specs.Forms.{arm_of, span_after, span_of, span_of_last}
 use Rattle.c_lower.specs.Stopping.{IsStop}
 use Rattle.c_lower.specs.declared.stop.Stop.{Stop}

@@ -5,14 +5,14 @@ use Rattle.cfa.specs.declared.expr.CellPlace.{CellPlace}
 use Rattle.cfa.specs.declared.expr.Expr.{Expr}
 use Rattle.cfa.specs.declared.parts.Operation.TheVariants.{Call, Return}
 use Rattle.cfa.specs.declared.parts.Variable.{Variable}
-use Rattle.typed_trees.specs.declared.expression.Callee.TheVariants.{Defined}
-use Rattle.graph_of.specs.declared.parts.Around.{Around}
-use Rattle.graph_of.specs.declared.parts.Operand.{Operand}
-use Rattle.graph_of.specs.declared.parts.Parts.{Parts}
-use Rattle.graph_of.specs.Builder.{after}
-use Rattle.graph_of.specs.Edges.{entry_of, exit_of, step, guard, guards}
-use Rattle.graph_of.specs.Expressions.{array_of, reads_of, call_edges}
-use Rattle.graph_of.proofs.After.{after_numbered}
+use Rattle.c_typed_trees.specs.declared.expression.Callee.TheVariants.{Defined}
+use Rattle.c_lower_rules.specs.declared.graph_of.parts.Around.{Around}
+use Rattle.c_lower_rules.specs.declared.graph_of.parts.Operand.{Operand}
+use Rattle.c_lower_rules.specs.declared.graph_of.parts.Parts.{Parts}
+use Rattle.c_lower_rules.specs.graph_of.Builder.{after}
+use Rattle.c_lower_rules.specs.graph_of.Edges.{entry_of, exit_of, step, guard, guards}
+use Rattle.c_lower_rules.specs.graph_of.Expressions.{array_of, reads_of, call_edges}
+use Rattle.c_lower_rules.proofs.graph_of.After.{after_numbered}
 use Rattle.c_lower.proofs.Stops.{stop_grows}
 
 pub guards_law : (u : Around) (span : Span) (test : Expr) (reads : List (List ℕ)) (a t f : ℕ) (m : Parts)

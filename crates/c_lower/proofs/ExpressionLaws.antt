@@ -8,19 +8,19 @@ use Rattle.c_values.specs.declared.operators.UnaryOp.{UnaryOp}
 use Rattle.c_values.specs.declared.operators.UnaryOp.TheVariants as unary
 use Rattle.cfa.specs.declared.expr.CellPlace.TheVariants as place
 use Rattle.cfa.specs.declared.expr.Expr.TheVariants as expr
-use Rattle.typed_trees.specs.declared.expression.TypedCall.{TypedCall, out-TypedCall}
-use Rattle.typed_trees.specs.declared.expression.TypedExpr.{TypedExpr}
-use Rattle.typed_trees.specs.declared.expression.TypedExprForm.{the_lemmas}
-use Rattle.typed_trees.specs.declared.expression.TypedExprForm.TheVariants as forms
-use Rattle.typed_trees.specs.declared.expression.TypedPlace.{TypedPlace, out-TypedPlace}
-use Rattle.graph_of.specs.declared.parts.Around.{Around}
-use Rattle.graph_of.specs.declared.parts.Operand.{Operand}
-use Rattle.graph_of.specs.declared.parts.Parts.{Parts}
-use Rattle.graph_of.specs.declared.parts.Target.{Target}
-use Rattle.graph_of.specs.Builder.{Builder, Flow, node, after, made_by, give, ◌then◌, ending}
-use Rattle.graph_of.specs.Edges.{deciding, node_at, node_here, put, guards}
-use Rattle.graph_of.specs.Expressions.{Value, Calling, value_of, spot_of, calling_of, spot_cell, cell_of, element_of, words_in_order, call_edges, call_pure, truth_pure, choice_pure, part_row, both_cond, either_cond, other_cond}
-use Rattle.graph_of.proofs.After.{after_at, after_numbered}
+use Rattle.c_typed_trees.specs.declared.expression.TypedCall.{TypedCall, out-TypedCall}
+use Rattle.c_typed_trees.specs.declared.expression.TypedExpr.{TypedExpr}
+use Rattle.c_typed_trees.specs.declared.expression.TypedExprForm.{the_lemmas}
+use Rattle.c_typed_trees.specs.declared.expression.TypedExprForm.TheVariants as forms
+use Rattle.c_typed_trees.specs.declared.expression.TypedPlace.{TypedPlace, out-TypedPlace}
+use Rattle.c_lower_rules.specs.declared.graph_of.parts.Around.{Around}
+use Rattle.c_lower_rules.specs.declared.graph_of.parts.Operand.{Operand}
+use Rattle.c_lower_rules.specs.declared.graph_of.parts.Parts.{Parts}
+use Rattle.c_lower_rules.specs.declared.graph_of.parts.Target.{Target}
+use Rattle.c_lower_rules.specs.graph_of.Builder.{Builder, Flow, node, after, made_by, give, ◌then◌, ending}
+use Rattle.c_lower_rules.specs.graph_of.Edges.{deciding, node_at, node_here, put, guards}
+use Rattle.c_lower_rules.specs.graph_of.Expressions.{Value, Calling, value_of, spot_of, calling_of, spot_cell, cell_of, element_of, words_in_order, call_edges, call_pure, truth_pure, choice_pure, part_row, both_cond, either_cond, other_cond}
+use Rattle.c_lower_rules.proofs.graph_of.After.{after_at, after_numbered}
 use Rattle.c_lower.specs.Flows.{end_of, gives_of}
 use Rattle.c_lower.specs.Operands.{constant_operand, temporary_operand, loaded_operand, converted_operand, unary_operand, binary_operand}
 use Rattle.c_lower.proofs.FlowLaws.{give_made, give_end, give_gives, made_then, end_then, gives_then, made_gives, end_gives, gives_gives, made_ending}

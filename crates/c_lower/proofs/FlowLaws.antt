@@ -1,8 +1,8 @@
 -- A flow and what goes on with it, as one addition to the parts after another.
 use Rattle.std.proofs.Common.{◌≡◌, ℕ, ◌+◌, List, [], ◌∷◌, length, refl, sym, ◌∙◌, length-append}
-use Rattle.graph_of.specs.declared.parts.Parts.{Parts}
-use Rattle.graph_of.specs.Builder.{Builder, Flow, in_order, after, made_by, give, ◌then◌, ending}
-use Rattle.graph_of.proofs.After.{after_at, after_in_order, then_made}
+use Rattle.c_lower_rules.specs.declared.graph_of.parts.Parts.{Parts}
+use Rattle.c_lower_rules.specs.graph_of.Builder.{Builder, Flow, in_order, after, made_by, give, ◌then◌, ending}
+use Rattle.c_lower_rules.proofs.graph_of.After.{after_at, after_in_order, then_made}
 use Rattle.c_lower.specs.Flows.{end_of, gives_of}
 
 module _ {A : Type 0} (v : A) (a : ℕ) (m : Parts) where

@@ -4,15 +4,15 @@ use Rattle.std.specs.Prelude.{slice_get, MatchOption}
 use Rattle.std.proofs.lemmas.List.{drop_all, take_more, map-append}
 use Rattle.fq_core.specs.declared.span.Span.{Span}
 use Rattle.c_values.specs.declared.kinds.Kind.{Kind}
-use Rattle.typed_trees.specs.declared.statement.TypedForm.{the_lemmas}
-use Rattle.typed_trees.specs.declared.statement.TypedGroup.{TypedGroup, out-TypedGroup}
-use Rattle.graph_of.specs.declared.parts.Around.{Around}
-use Rattle.graph_of.specs.declared.parts.Parts.{Parts}
-use Rattle.graph_of.specs.Builder.{node, after}
-use Rattle.graph_of.specs.Edges.{node_at, node_here, skip}
-use Rattle.graph_of.specs.Switch.{Case, Group, cases_in, cases_from, has_default, default_at, default_from, case_guard, cases_row, group_nodes}
-use Rattle.graph_of.specs.Table.{piece, group_of}
-use Rattle.graph_of.proofs.After.{after_numbered}
+use Rattle.c_typed_trees.specs.declared.statement.TypedForm.{the_lemmas}
+use Rattle.c_typed_trees.specs.declared.statement.TypedGroup.{TypedGroup, out-TypedGroup}
+use Rattle.c_lower_rules.specs.declared.graph_of.parts.Around.{Around}
+use Rattle.c_lower_rules.specs.declared.graph_of.parts.Parts.{Parts}
+use Rattle.c_lower_rules.specs.graph_of.Builder.{node, after}
+use Rattle.c_lower_rules.specs.graph_of.Edges.{node_at, node_here, skip}
+use Rattle.c_lower_rules.specs.graph_of.Switch.{Case, Group, cases_in, cases_from, has_default, default_at, default_from, case_guard, cases_row, group_nodes}
+use Rattle.c_lower_rules.specs.graph_of.Table.{piece, group_of}
+use Rattle.c_lower_rules.proofs.graph_of.After.{after_numbered}
 use Rattle.c_lower.specs.Cases.{case_of}
 use Rattle.c_lower.specs.Stopping.{IsStop}
 use Rattle.c_lower.specs.declared.labels.CaseLabel.{CaseLabel}

@@ -1,16 +1,16 @@
 -- Loops and labels, as one addition to the parts after another.
 use Rattle.std.proofs.Common.{◌≡◌, ℕ, ◌+◌, List, [], ◌∷◌, map, length, Option, Some, None, refl, sym, ap, subst, ◌∙◌}
 use Rattle.std.specs.Option.{option_map}
-use Rattle.typed_trees.specs.declared.expression.TypedExpr.{TypedExpr}
-use Rattle.typed_trees.specs.declared.statement.TypedStatement.{TypedStatement}
-use Rattle.graph_of.specs.declared.parts.Around.{Around}
-use Rattle.graph_of.specs.declared.parts.Parts.{Parts}
-use Rattle.graph_of.specs.Builder.{after}
-use Rattle.graph_of.specs.Edges.{inside, deciding, seeing, scope_behind, node_at, node_here, skip, label_edge, enter_edge, back_edge}
-use Rattle.graph_of.specs.Expressions.{Value, value_of}
-use Rattle.graph_of.specs.Statements.{Piece, sequence, block_row, declared_by, while_row, do_row, for_row, for_loop, for_test, for_step, label_row}
-use Rattle.graph_of.specs.Table.{lowered, piece}
-use Rattle.graph_of.proofs.After.{after_numbered}
+use Rattle.c_typed_trees.specs.declared.expression.TypedExpr.{TypedExpr}
+use Rattle.c_typed_trees.specs.declared.statement.TypedStatement.{TypedStatement}
+use Rattle.c_lower_rules.specs.declared.graph_of.parts.Around.{Around}
+use Rattle.c_lower_rules.specs.declared.graph_of.parts.Parts.{Parts}
+use Rattle.c_lower_rules.specs.graph_of.Builder.{after}
+use Rattle.c_lower_rules.specs.graph_of.Edges.{inside, deciding, seeing, scope_behind, node_at, node_here, skip, label_edge, enter_edge, back_edge}
+use Rattle.c_lower_rules.specs.graph_of.Expressions.{Value, value_of}
+use Rattle.c_lower_rules.specs.graph_of.Statements.{Piece, sequence, block_row, declared_by, while_row, do_row, for_row, for_loop, for_test, for_step, label_row}
+use Rattle.c_lower_rules.specs.graph_of.Table.{lowered, piece}
+use Rattle.c_lower_rules.proofs.graph_of.After.{after_numbered}
 use Rattle.c_lower.specs.Stopping.{IsStop}
 use Rattle.c_lower.specs.declared.stop.Stop.{Stop}
 use Rattle.c_lower.proofs.ScopeLaws.{swapped, scopes_keep_nodes}

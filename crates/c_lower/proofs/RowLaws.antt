@@ -12,18 +12,18 @@ use Rattle.cfa.specs.declared.expr.Expr.TheVariants as expr
 use Rattle.cfa.specs.declared.parts.Operation.{Operation}
 use Rattle.cfa.specs.declared.parts.Operation.TheVariants.{Assign, Assert, Assume}
 use Rattle.cfa.specs.declared.parts.Variable.{Variable}
-use Rattle.typed_trees.specs.declared.expression.TypedCall.{TypedCall, out-TypedCall}
-use Rattle.typed_trees.specs.declared.expression.TypedExpr.{TypedExpr}
-use Rattle.typed_trees.specs.declared.expression.TypedPlace.{TypedPlace, out-TypedPlace}
-use Rattle.graph_of.specs.declared.parts.Around.{Around}
-use Rattle.graph_of.specs.declared.parts.Operand.{Operand}
-use Rattle.graph_of.specs.declared.parts.Parts.{Parts}
-use Rattle.graph_of.specs.declared.parts.Target.{Target}
-use Rattle.graph_of.specs.Builder.{Builder, Flow, after, made_by, give, ◌then◌, ending}
-use Rattle.graph_of.specs.Edges.{node_here, step, skip}
-use Rattle.graph_of.specs.Expressions.{Calling, value_of, spot_of, calling_of, spot_cell, cell_of, element_of, words_in_order, call_edges}
-use Rattle.graph_of.specs.Statements.{return_row, test_row, assign_row, combined, reads_in_place, local_row, element_row, elements_row, clear, array_row, call_row}
-use Rattle.graph_of.proofs.After.{after_nil, after_numbered}
+use Rattle.c_typed_trees.specs.declared.expression.TypedCall.{TypedCall, out-TypedCall}
+use Rattle.c_typed_trees.specs.declared.expression.TypedExpr.{TypedExpr}
+use Rattle.c_typed_trees.specs.declared.expression.TypedPlace.{TypedPlace, out-TypedPlace}
+use Rattle.c_lower_rules.specs.declared.graph_of.parts.Around.{Around}
+use Rattle.c_lower_rules.specs.declared.graph_of.parts.Operand.{Operand}
+use Rattle.c_lower_rules.specs.declared.graph_of.parts.Parts.{Parts}
+use Rattle.c_lower_rules.specs.declared.graph_of.parts.Target.{Target}
+use Rattle.c_lower_rules.specs.graph_of.Builder.{Builder, Flow, after, made_by, give, ◌then◌, ending}
+use Rattle.c_lower_rules.specs.graph_of.Edges.{node_here, step, skip}
+use Rattle.c_lower_rules.specs.graph_of.Expressions.{Calling, value_of, spot_of, calling_of, spot_cell, cell_of, element_of, words_in_order, call_edges}
+use Rattle.c_lower_rules.specs.graph_of.Statements.{return_row, test_row, assign_row, combined, reads_in_place, local_row, element_row, elements_row, clear, array_row, call_row}
+use Rattle.c_lower_rules.proofs.graph_of.After.{after_nil, after_numbered}
 use Rattle.c_lower.specs.Flows.{end_of, gives_of}
 use Rattle.c_lower.specs.Stopping.{IsStop}
 use Rattle.c_lower.specs.declared.stop.Stop.{Stop}

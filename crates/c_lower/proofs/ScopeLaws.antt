@@ -6,20 +6,20 @@ use Rattle.fq_core.specs.declared.span.Span.{Span}
 use Rattle.cfa.specs.declared.parts.Node.{Node}
 use Rattle.cfa.specs.declared.parts.Scope.{Scope}
 use Rattle.cfa.specs.declared.parts.Variable.{Variable}
-use Rattle.typed_trees.specs.declared.expression.TypedExpr.{TypedExpr}
-use Rattle.typed_trees.specs.declared.statement.TypedForm.{TypedForm, out-TypedForm, map-TypedForm, the_lemmas}
-use Rattle.typed_trees.specs.declared.statement.TypedForm.TheOpen.{TypedForm-F}
-use Rattle.typed_trees.specs.declared.statement.TypedForm.TheVariants as forms
-use Rattle.typed_trees.specs.declared.statement.TypedGroup.{TypedGroup}
-use Rattle.typed_trees.specs.declared.statement.TypedStatement.{TypedStatement}
-use Rattle.graph_of.specs.declared.parts.Around.{Around}
-use Rattle.graph_of.specs.declared.parts.Parts.{Parts}
-use Rattle.graph_of.specs.Builder.{node, scope, after}
-use Rattle.graph_of.specs.Edges.{scope_behind, sees_behind, seeing}
-use Rattle.graph_of.specs.Statements.{Piece, declared_by}
-use Rattle.graph_of.specs.Switch.{Group}
-use Rattle.graph_of.specs.Table.{form_step, shape, group_of, piece}
-use Rattle.graph_of.proofs.After.{after_nil}
+use Rattle.c_typed_trees.specs.declared.expression.TypedExpr.{TypedExpr}
+use Rattle.c_typed_trees.specs.declared.statement.TypedForm.{TypedForm, out-TypedForm, map-TypedForm, the_lemmas}
+use Rattle.c_typed_trees.specs.declared.statement.TypedForm.TheOpen.{TypedForm-F}
+use Rattle.c_typed_trees.specs.declared.statement.TypedForm.TheVariants as forms
+use Rattle.c_typed_trees.specs.declared.statement.TypedGroup.{TypedGroup}
+use Rattle.c_typed_trees.specs.declared.statement.TypedStatement.{TypedStatement}
+use Rattle.c_lower_rules.specs.declared.graph_of.parts.Around.{Around}
+use Rattle.c_lower_rules.specs.declared.graph_of.parts.Parts.{Parts}
+use Rattle.c_lower_rules.specs.graph_of.Builder.{node, scope, after}
+use Rattle.c_lower_rules.specs.graph_of.Edges.{scope_behind, sees_behind, seeing}
+use Rattle.c_lower_rules.specs.graph_of.Statements.{Piece, declared_by}
+use Rattle.c_lower_rules.specs.graph_of.Switch.{Group}
+use Rattle.c_lower_rules.specs.graph_of.Table.{form_step, shape, group_of, piece}
+use Rattle.c_lower_rules.proofs.graph_of.After.{after_nil}
 use Rattle.c_lower.specs.Forms.{has_any}
 
 -- a statement is what its form makes

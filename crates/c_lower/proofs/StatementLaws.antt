@@ -8,22 +8,22 @@ use Rattle.c_values.specs.declared.kinds.Kind.{Kind}
 use Rattle.c_values.specs.declared.operators.BinaryOp.{BinaryOp}
 use Rattle.cfa.specs.declared.parts.Operation.TheVariants.{Assert, Assume}
 use Rattle.cfa.specs.declared.parts.Variable.{Variable}
-use Rattle.typed_trees.specs.declared.expression.TypedCall.{TypedCall}
-use Rattle.typed_trees.specs.declared.expression.TypedExpr.{TypedExpr}
-use Rattle.typed_trees.specs.declared.expression.TypedPlace.{TypedPlace}
-use Rattle.typed_trees.specs.declared.statement.TypedForm.{TypedForm, the_lemmas}
-use Rattle.typed_trees.specs.declared.statement.TypedForm.TheOpen.{TypedForm-F}
-use Rattle.typed_trees.specs.declared.statement.TypedForm.TheVariants as forms
-use Rattle.typed_trees.specs.declared.statement.TypedGroup.{TypedGroup}
-use Rattle.typed_trees.specs.declared.statement.TypedStatement.{TypedStatement}
-use Rattle.graph_of.specs.declared.parts.Around.{Around}
-use Rattle.graph_of.specs.declared.parts.Parts.{Parts}
-use Rattle.graph_of.specs.Builder.{after}
-use Rattle.graph_of.specs.Edges.{Lowering, stated, node_here, skip, label_edge}
-use Rattle.graph_of.specs.Expressions.{Value, value_of, spot_of, calling_of}
-use Rattle.graph_of.specs.Statements.{Piece, block_row, arms_row, while_row, do_row, for_row, return_row, break_row, continue_row, label_row, test_row, assign_row, local_row, array_row, call_row}
-use Rattle.graph_of.specs.Switch.{switch_row}
-use Rattle.graph_of.specs.Table.{stating, tested, form_step, shape, group_of, piece, lowered}
+use Rattle.c_typed_trees.specs.declared.expression.TypedCall.{TypedCall}
+use Rattle.c_typed_trees.specs.declared.expression.TypedExpr.{TypedExpr}
+use Rattle.c_typed_trees.specs.declared.expression.TypedPlace.{TypedPlace}
+use Rattle.c_typed_trees.specs.declared.statement.TypedForm.{TypedForm, the_lemmas}
+use Rattle.c_typed_trees.specs.declared.statement.TypedForm.TheOpen.{TypedForm-F}
+use Rattle.c_typed_trees.specs.declared.statement.TypedForm.TheVariants as forms
+use Rattle.c_typed_trees.specs.declared.statement.TypedGroup.{TypedGroup}
+use Rattle.c_typed_trees.specs.declared.statement.TypedStatement.{TypedStatement}
+use Rattle.c_lower_rules.specs.declared.graph_of.parts.Around.{Around}
+use Rattle.c_lower_rules.specs.declared.graph_of.parts.Parts.{Parts}
+use Rattle.c_lower_rules.specs.graph_of.Builder.{after}
+use Rattle.c_lower_rules.specs.graph_of.Edges.{Lowering, stated, node_here, skip, label_edge}
+use Rattle.c_lower_rules.specs.graph_of.Expressions.{Value, value_of, spot_of, calling_of}
+use Rattle.c_lower_rules.specs.graph_of.Statements.{Piece, block_row, arms_row, while_row, do_row, for_row, return_row, break_row, continue_row, label_row, test_row, assign_row, local_row, array_row, call_row}
+use Rattle.c_lower_rules.specs.graph_of.Switch.{switch_row}
+use Rattle.c_lower_rules.specs.graph_of.Table.{stating, tested, form_step, shape, group_of, piece, lowered}
 use Rattle.c_lower.specs.Forms.{kind_of, arm_of}
 use Rattle.c_lower.proofs.ScopeLaws.{shaped}
 use Rattle.c_lower.specs.Stopping.{IsStop}

@@ -1,9 +1,9 @@
 -- Parts that have too many edges.
 use Rattle.std.proofs.Common.{◌≡◌, ◌+◌, [], ◌∷◌, length, length-append, arith}
 use Rattle.cfa.specs.declared.parts.Edge.{Edge}
-use Rattle.graph_of.specs.declared.parts.Parts.{Parts}
-use Rattle.graph_of.specs.Builder.{Builder, edge, after}
-use Rattle.graph_of.proofs.After.{grows}
+use Rattle.c_lower_rules.specs.declared.graph_of.parts.Parts.{Parts}
+use Rattle.c_lower_rules.specs.graph_of.Builder.{Builder, edge, after}
+use Rattle.c_lower_rules.proofs.graph_of.After.{grows}
 use Rattle.c_lower.specs.declared.stop.Stop.{Stop}
 use Rattle.c_lower.specs.declared.stop.Stop.TheVariants.{TooManyEdges, Memory}
 use Rattle.c_lower.specs.Stopping.{IsStop}

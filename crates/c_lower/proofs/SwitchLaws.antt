@@ -3,17 +3,17 @@ use Rattle.std.proofs.Common.{◌≡◌, ◌<◌, ◌≤◌, ℕ, ◌+◌, List,
 use Rattle.std.specs.Prelude.{slice_get, MatchOption}
 use Rattle.std.proofs.lemmas.List.{drop_all, length-map}
 use Rattle.c_values.specs.declared.kinds.Kind.{Kind}
-use Rattle.typed_trees.specs.declared.expression.TypedExpr.{TypedExpr}
-use Rattle.typed_trees.specs.declared.statement.TypedGroup.{TypedGroup, out-TypedGroup}
-use Rattle.graph_of.specs.declared.parts.Around.{Around}
-use Rattle.graph_of.specs.declared.parts.Parts.{Parts}
-use Rattle.graph_of.specs.Builder.{in_order, after, ending}
-use Rattle.graph_of.specs.Edges.{within, node_here, put}
-use Rattle.graph_of.specs.Expressions.{value_of, part_row}
-use Rattle.graph_of.specs.Statements.{block_row}
-use Rattle.graph_of.specs.Switch.{Group, cases_from, default_from, cases_row, group_nodes, groups_row, switch_row}
-use Rattle.graph_of.specs.Table.{piece, group_of}
-use Rattle.graph_of.proofs.After.{after_nil, after_in_order, after_numbered}
+use Rattle.c_typed_trees.specs.declared.expression.TypedExpr.{TypedExpr}
+use Rattle.c_typed_trees.specs.declared.statement.TypedGroup.{TypedGroup, out-TypedGroup}
+use Rattle.c_lower_rules.specs.declared.graph_of.parts.Around.{Around}
+use Rattle.c_lower_rules.specs.declared.graph_of.parts.Parts.{Parts}
+use Rattle.c_lower_rules.specs.graph_of.Builder.{in_order, after, ending}
+use Rattle.c_lower_rules.specs.graph_of.Edges.{within, node_here, put}
+use Rattle.c_lower_rules.specs.graph_of.Expressions.{value_of, part_row}
+use Rattle.c_lower_rules.specs.graph_of.Statements.{block_row}
+use Rattle.c_lower_rules.specs.graph_of.Switch.{Group, cases_from, default_from, cases_row, group_nodes, groups_row, switch_row}
+use Rattle.c_lower_rules.specs.graph_of.Table.{piece, group_of}
+use Rattle.c_lower_rules.proofs.graph_of.After.{after_nil, after_in_order, after_numbered}
 use Rattle.c_lower.specs.Cases.{case_of}
 use Rattle.c_lower.specs.Stopping.{IsStop}
 use Rattle.c_lower.specs.declared.labels.CaseLabel.{CaseLabel}

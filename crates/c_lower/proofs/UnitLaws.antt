@@ -9,15 +9,15 @@ use Rattle.cfa.specs.declared.parts.Function.{Function}
 use Rattle.cfa.specs.declared.parts.Node.{Node}
 use Rattle.cfa.specs.declared.parts.Scope.{Scope}
 use Rattle.cfa.specs.declared.parts.Variable.{Variable}
-use Rattle.typed_trees.specs.declared.unit.Typed.{Typed}
-use Rattle.typed_trees.specs.declared.unit.TypedFunction.{TypedFunction}
-use Rattle.graph_of.specs.declared.parts.Parts.{Parts}
-use Rattle.graph_of.specs.Builder.{in_order, after}
-use Rattle.graph_of.specs.Edges.{entry_of, exit_of, node_at}
-use Rattle.graph_of.specs.GraphOf.{graph_of, word_kind, function_of, functions_from, global_variables, global_cells, outermost, around_of, ends_from, ends, bodies_from, made}
-use Rattle.graph_of.specs.Statements.{block_row}
-use Rattle.graph_of.specs.Table.{piece}
-use Rattle.graph_of.proofs.After.{after_nil}
+use Rattle.c_typed_trees.specs.declared.unit.Typed.{Typed}
+use Rattle.c_typed_trees.specs.declared.unit.TypedFunction.{TypedFunction}
+use Rattle.c_lower_rules.specs.declared.graph_of.parts.Parts.{Parts}
+use Rattle.c_lower_rules.specs.graph_of.Builder.{in_order, after}
+use Rattle.c_lower_rules.specs.graph_of.Edges.{entry_of, exit_of, node_at}
+use Rattle.c_lower_rules.specs.graph_of.GraphOf.{graph_of, word_kind, function_of, functions_from, global_variables, global_cells, outermost, around_of, ends_from, ends, bodies_from, made}
+use Rattle.c_lower_rules.specs.graph_of.Statements.{block_row}
+use Rattle.c_lower_rules.specs.graph_of.Table.{piece}
+use Rattle.c_lower_rules.proofs.graph_of.After.{after_nil}
 use Rattle.c_lower.specs.Stopping.{IsStop, IsTold}
 use Rattle.c_lower.specs.declared.stop.Stop.{Stop}
 use Rattle.c_lower.specs.declared.stop.Stop.TheVariants as stops

@@ -7,16 +7,16 @@ use Rattle.c_values.specs.declared.operators.BinaryOp.{BinaryOp}
 use Rattle.c_values.specs.declared.operators.UnaryOp.{UnaryOp}
 use Rattle.c_values.specs.declared.operators.UnaryOp.TheVariants as unary
 use Rattle.cfa.specs.declared.parts.Variable.{Variable}
-use Rattle.typed_trees.specs.declared.expression.TypedCall.{TypedCall, out-TypedCall}
-use Rattle.typed_trees.specs.declared.expression.TypedExpr.{TypedExpr}
-use Rattle.typed_trees.specs.declared.expression.TypedExprForm.{TypedExprForm, out-TypedExprForm, map-TypedExprForm, the_lemmas}
-use Rattle.typed_trees.specs.declared.expression.TypedExprForm.TheVariants as forms
-use Rattle.typed_trees.specs.declared.expression.TypedExprForm.TheOpen.{TypedExprForm-F}
-use Rattle.typed_trees.specs.declared.expression.TypedPlace.{TypedPlace, out-TypedPlace}
-use Rattle.graph_of.specs.declared.parts.Around.{Around}
-use Rattle.graph_of.specs.declared.parts.Operand.{Operand}
-use Rattle.graph_of.specs.Builder.{Flow, give, ◌then◌}
-use Rattle.graph_of.specs.Expressions.{Value, Spot, Calling, Shaped, form_step, shape_of, value_of, spot_of, calling_of, spot_cell, spot_index, unary_value, unary_pure, convert_pure, truth_pure, choice_pure, call_pure, both_cond, either_cond, not_cond, other_cond}
+use Rattle.c_typed_trees.specs.declared.expression.TypedCall.{TypedCall, out-TypedCall}
+use Rattle.c_typed_trees.specs.declared.expression.TypedExpr.{TypedExpr}
+use Rattle.c_typed_trees.specs.declared.expression.TypedExprForm.{TypedExprForm, out-TypedExprForm, map-TypedExprForm, the_lemmas}
+use Rattle.c_typed_trees.specs.declared.expression.TypedExprForm.TheVariants as forms
+use Rattle.c_typed_trees.specs.declared.expression.TypedExprForm.TheOpen.{TypedExprForm-F}
+use Rattle.c_typed_trees.specs.declared.expression.TypedPlace.{TypedPlace, out-TypedPlace}
+use Rattle.c_lower_rules.specs.declared.graph_of.parts.Around.{Around}
+use Rattle.c_lower_rules.specs.declared.graph_of.parts.Operand.{Operand}
+use Rattle.c_lower_rules.specs.graph_of.Builder.{Flow, give, ◌then◌}
+use Rattle.c_lower_rules.specs.graph_of.Expressions.{Value, Spot, Calling, Shaped, form_step, shape_of, value_of, spot_of, calling_of, spot_cell, spot_index, unary_value, unary_pure, convert_pure, truth_pure, choice_pure, call_pure, both_cond, either_cond, not_cond, other_cond}
 use Rattle.c_lower.specs.Operands.{constant_operand, loaded_operand, unary_operand, binary_operand}
 
 -- an expression is what its form makes

@@ -3,13 +3,13 @@ use Rattle.std.specs.Prelude.{ℕ, Bool, true, false, List, [], ◌∷◌, Optio
 use Rattle.fq_core.specs.declared.span.Span.{Span}
 use Rattle.fq_core.specs.declared.statement_kind.StatementKind.{StatementKind}
 use Rattle.fq_core.specs.declared.statement_kind.StatementKind.TheVariants as kinds
-use Rattle.typed_trees.specs.declared.expression.TypedExpr.{TypedExpr}
-use Rattle.typed_trees.specs.declared.statement.TypedForm.{TypedForm, out-TypedForm}
-use Rattle.typed_trees.specs.declared.statement.TypedForm.TheOpen.{TypedForm-F}
-use Rattle.typed_trees.specs.declared.statement.TypedStatement.{TypedStatement}
-use Rattle.graph_of.specs.Expressions.{Value, value_of}
-use Rattle.graph_of.specs.Statements.{Piece}
-use Rattle.graph_of.specs.Table.{piece}
+use Rattle.c_typed_trees.specs.declared.expression.TypedExpr.{TypedExpr}
+use Rattle.c_typed_trees.specs.declared.statement.TypedForm.{TypedForm, out-TypedForm}
+use Rattle.c_typed_trees.specs.declared.statement.TypedForm.TheOpen.{TypedForm-F}
+use Rattle.c_typed_trees.specs.declared.statement.TypedStatement.{TypedStatement}
+use Rattle.c_lower_rules.specs.graph_of.Expressions.{Value, value_of}
+use Rattle.c_lower_rules.specs.graph_of.Statements.{Piece}
+use Rattle.c_lower_rules.specs.graph_of.Table.{piece}
 
 -- a list has elements
 abbrev pub has_any : {A : Type 0} → List A → Bool

@@ -4,9 +4,9 @@ use Rattle.c_values.specs.declared.kinds.Kind.{Kind}
 use Rattle.c_values.specs.declared.operators.BinaryOp.{BinaryOp}
 use Rattle.c_values.specs.declared.operators.UnaryOp.{UnaryOp}
 use Rattle.cfa.specs.declared.expr.Expr.TheVariants as expr
-use Rattle.graph_of.specs.declared.parts.Operand.{Operand}
-use Rattle.graph_of.specs.declared.parts.Target.{Target}
-use Rattle.graph_of.specs.Expressions.{temporary}
+use Rattle.c_lower_rules.specs.declared.graph_of.parts.Operand.{Operand}
+use Rattle.c_lower_rules.specs.declared.graph_of.parts.Target.{Target}
+use Rattle.c_lower_rules.specs.graph_of.Expressions.{temporary}
 
 abbrev pub constant_operand : ℕ → Kind → Operand
 constant_operand n kind = record { value = expr.Constant n kind; reads = [] }

@@ -1,7 +1,7 @@
 -- Why lowering stops.
 use Rattle.std.specs.Prelude.{◌<◌, length}
 use Rattle.cfa.specs.declared.parts.GraphParts.{GraphParts}
-use Rattle.graph_of.specs.declared.parts.Parts.{Parts}
+use Rattle.c_lower_rules.specs.declared.graph_of.parts.Parts.{Parts}
 use Rattle.c_lower.specs.declared.stop.Stop.{Stop}
 use Rattle.c_lower.specs.declared.stop.Stop.TheVariants.{TooManyEdges, Memory}
 

@@ -1,10 +1,10 @@
 // What things are made within.
 ghost use Rattle.std.specs.Prelude.{◌≡◌, ◌∷◌, IfOk};
-ghost use Rattle.graph_of.specs.Edges.{stated, inside, within, deciding};
+ghost use Rattle.c_lower_rules.specs.graph_of.Edges.{stated, inside, within, deciding};
 
+use c_lower_rules::graph_of::Around;
 use cfa::{Scope, StatementKind};
 use fq_core::Span;
-use graph_of::Around;
 use std::alloc::AllocError;
 
 pub(crate) fn shared(scope: &Scope) -> Result<Scope, AllocError>

@@ -1,21 +1,21 @@
 // The edges of calls.
 ghost use Rattle.std.specs.Prelude.{◌≡◌, map, IfOk, IfErr, OnOk};
 ghost use Rattle.cfa.specs.declared.parts.Variable.{Variable as OneVariable};
-ghost use Rattle.typed_trees.specs.declared.expression.Callee.TheVariants as callees;
-ghost use Rattle.graph_of.specs.Builder.{after};
-ghost use Rattle.graph_of.specs.Expressions.{array_of, call_edges};
+ghost use Rattle.c_typed_trees.specs.declared.expression.Callee.TheVariants as callees;
+ghost use Rattle.c_lower_rules.specs.graph_of.Builder.{after};
+ghost use Rattle.c_lower_rules.specs.graph_of.Expressions.{array_of, call_edges};
 ghost use Rattle.c_lower.specs.Stopping.{IsStop};
 
 use crate::edges::step;
 use crate::operands::{joined, split_operands};
 use crate::places::array_of;
 use crate::stop::Stop;
+use c_lower_rules::graph_of::{Around, Operand, Parts};
+use c_typed_trees::Callee;
 use cfa::{ArrayPlace, CellPlace, Operation, Variable};
 use containers::{TryClone, Vector};
 use fq_core::Name;
-use graph_of::{Around, Operand, Parts};
 use std::alloc::{AllocError, Global};
-use typed_trees::Callee;
 
 fn names_of(alloc: Global, arrays: &[Variable]) -> Result<Vector<Name>, AllocError>
     ensures { IfOk result (λ names. names ≡ map (λ (v : OneVariable). v.name) arrays.now) }

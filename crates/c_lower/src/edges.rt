@@ -1,16 +1,16 @@
 // Edges.
 ghost use Rattle.std.specs.Prelude.{◌≡◌, [], ◌∷◌, map, IfOk, IfErr, OnOk};
 ghost use Rattle.std.specs.Option.{is_some};
-ghost use Rattle.graph_of.specs.Builder.{after};
-ghost use Rattle.graph_of.specs.Edges.{edge_of, step, skip, label_edge, enter_edge, back_edge, put, decides, guard, guards};
+ghost use Rattle.c_lower_rules.specs.graph_of.Builder.{after};
+ghost use Rattle.c_lower_rules.specs.graph_of.Edges.{edge_of, step, skip, label_edge, enter_edge, back_edge, put, decides, guard, guards};
 ghost use Rattle.c_lower.specs.Stopping.{IsStop};
 
 use crate::make::new_edge;
 use crate::stop::Stop;
+use c_lower_rules::graph_of::{Around, Parts};
 use cfa::{CellPlace, Edge, Expr, Operation};
 use containers::{TryClone, Vector};
 use fq_core::{Name, Span};
-use graph_of::{Around, Parts};
 use std::alloc::Global;
 
 /// An edge of the innermost statement.

@@ -1,9 +1,9 @@
 // The labels of a `switch`.
 ghost use Rattle.std.specs.Prelude.{◌≡◌, ◌+◌, ◌<◌, ◌++◌, true, false, map, length, slice_get, MatchOption, IfOk, IfErr, OnOk};
-ghost use Rattle.graph_of.specs.Builder.{after};
-ghost use Rattle.graph_of.specs.Edges.{node_here};
-ghost use Rattle.graph_of.specs.Switch.{cases_in, cases_from, has_default, default_from, case_guard, cases_row, group_nodes};
-ghost use Rattle.graph_of.specs.Table.{group_of};
+ghost use Rattle.c_lower_rules.specs.graph_of.Builder.{after};
+ghost use Rattle.c_lower_rules.specs.graph_of.Edges.{node_here};
+ghost use Rattle.c_lower_rules.specs.graph_of.Switch.{cases_in, cases_from, has_default, default_from, case_guard, cases_row, group_nodes};
+ghost use Rattle.c_lower_rules.specs.graph_of.Table.{group_of};
 ghost use Rattle.c_lower.specs.Cases.{case_of};
 ghost use Rattle.c_lower.specs.Stopping.{IsStop};
 
@@ -11,13 +11,13 @@ use crate::edges::{edge_of, skip};
 use crate::make::{new_edge, new_node};
 use crate::operands::temporary;
 use crate::stop::Stop;
+use c_lower_rules::graph_of::{Around, Operand, Parts};
+use c_typed_trees::TypedGroup;
 use c_values::{BinaryOp, Kind};
 use cfa::{Expr, Operation};
 use containers::{Boxed, Vector};
 use fq_core::Span;
-use graph_of::{Around, Operand, Parts};
 use std::alloc::{AllocError, Global};
-use typed_trees::TypedGroup;
 
 /// A case label: the place of its word, its value, and the node of its group.
 #[derive(Clone, Copy, Debug)]

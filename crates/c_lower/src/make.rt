@@ -1,19 +1,19 @@
 // One node and one edge.
 ghost use Rattle.std.specs.Prelude.{◌≡◌, ◌+◌, ◌<◌, ◌≤◌, ◌∷◌, length, IfOk, IfErr, OnOk};
-ghost use Rattle.graph_of.specs.Builder.{node, edge, after};
-ghost use Rattle.graph_of.specs.Edges.{node_at, node_here};
+ghost use Rattle.c_lower_rules.specs.graph_of.Builder.{node, edge, after};
+ghost use Rattle.c_lower_rules.specs.graph_of.Edges.{node_at, node_here};
 ghost use Rattle.c_lower.specs.Stopping.{IsStop};
 
 use crate::stop::Stop;
+use c_lower_rules::graph_of::{Around, Parts};
 use cfa::{Edge, Node};
 use fq_core::Span;
-use graph_of::{Around, Parts};
 
 /// The greatest number of edges of a graph.
 pub(crate) const MOST_EDGES: usize = 40_000;
 
 /// A new node on the line of a token, by its number.
-#[tactic(auto, unfolding(graph_of::specs::Builder::after))]
+#[tactic(auto, unfolding(c_lower_rules::specs::graph_of::Builder::after))]
 pub(crate) fn new_node(around: &Around, span: Span, parts: &mut Parts) -> Result<u32, Stop>
     ensures number { IfOk result (λ number. number ≡ length parts.old.nodes) }
     ensures made { IfOk result (λ number. parts.new ≡ after (node (node_at around.now span)) parts.old) }
@@ -35,7 +35,7 @@ pub(crate) fn new_node(around: &Around, span: Span, parts: &mut Parts) -> Result
 }
 
 /// A new edge.
-#[tactic(auto, unfolding(graph_of::specs::Builder::after), using(crate::proofs::Stops::stops))]
+#[tactic(auto, unfolding(c_lower_rules::specs::graph_of::Builder::after), using(crate::proofs::Stops::stops))]
 pub(crate) fn new_edge(made: Edge, parts: &mut Parts) -> Result<(), Stop>
     ensures made { OnOk result (parts.new ≡ after (edge made) parts.old) }
     ensures err { IfErr result (λ stop. IsStop stop (after (edge made) parts.old)) }

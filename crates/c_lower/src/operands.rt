@@ -1,14 +1,14 @@
 // The values that expressions give, with the names that they are read from.
 ghost use Rattle.std.specs.Prelude.{◌≡◌, ◌++◌, ◌∷◌, map, IfOk};
 ghost use Rattle.std.specs.List.{flat_map};
-ghost use Rattle.graph_of.specs.declared.parts.Operand.{Operand as OneOperand};
+ghost use Rattle.c_lower_rules.specs.declared.graph_of.parts.Operand.{Operand as OneOperand};
 ghost use Rattle.c_lower.specs.Operands.{constant_operand, temporary_operand, loaded_operand, converted_operand, unary_operand, binary_operand};
 
+use c_lower_rules::graph_of::{Operand, Target};
 use c_values::{BinaryOp, Kind, UnaryOp};
 use cfa::{CellPlace, Expr};
 use containers::{Boxed, TryClone, Vector};
 use fq_core::Name;
-use graph_of::{Operand, Target};
 use std::alloc::{AllocError, Global};
 
 /// Names, and then others.

@@ -1,6 +1,6 @@
 // Places of variables as cells and arrays.
 ghost use Rattle.std.specs.Prelude.{◌≡◌, IfOk};
-ghost use Rattle.graph_of.specs.Expressions.{array_of, cell_of, length_of, element_of};
+ghost use Rattle.c_lower_rules.specs.graph_of.Expressions.{array_of, cell_of, length_of, element_of};
 
 use c_values::Kind;
 use cfa::{ArrayPlace, CellPlace, Expr, Variable, VariablePlace};

@@ -2,10 +2,10 @@
 ghost use Rattle.std.specs.Prelude.{◌≡◌, ◌+◌, ◌<◌, [], ◌∷◌, map, length, slice_get, MatchOption, IfOk, IfErr, OnOk};
 ghost use Rattle.std.specs.Option.{option_map};
 ghost use Rattle.cfa.specs.declared.parts.Operation.TheVariants as operations;
-ghost use Rattle.graph_of.specs.Builder.{after};
-ghost use Rattle.graph_of.specs.Edges.{node_here};
-ghost use Rattle.graph_of.specs.Expressions.{value_of, spot_of, calling_of};
-ghost use Rattle.graph_of.specs.Statements.{return_row, test_row, assign_row, local_row, element_row, elements_row, clear, array_row, call_row, converted_to, combined, reads_in_place};
+ghost use Rattle.c_lower_rules.specs.graph_of.Builder.{after};
+ghost use Rattle.c_lower_rules.specs.graph_of.Edges.{node_here};
+ghost use Rattle.c_lower_rules.specs.graph_of.Expressions.{value_of, spot_of, calling_of};
+ghost use Rattle.c_lower_rules.specs.graph_of.Statements.{return_row, test_row, assign_row, local_row, element_row, elements_row, clear, array_row, call_row, converted_to, combined, reads_in_place};
 ghost use Rattle.c_lower.specs.Stopping.{IsStop};
 
 use crate::calls::call_edges;
@@ -15,13 +15,13 @@ use crate::operands::{joined, with_name};
 use crate::places::{array_of, cell_of, element_of, length_of};
 use crate::stop::Stop;
 use crate::values::{spot, value, words};
+use c_lower_rules::graph_of::{Around, Operand, Parts, Target};
+use c_typed_trees::{TypedCall, TypedExpr, TypedPlace};
 use c_values::{BinaryOp, Kind};
 use cfa::{CellPlace, Expr, Operation, Variable};
 use containers::{Boxed, TryClone, Vector};
 use fq_core::Name;
-use graph_of::{Around, Operand, Parts, Target};
 use std::alloc::{AllocError, Global};
-use typed_trees::{TypedCall, TypedExpr, TypedPlace};
 
 fn converted_to(alloc: Global, own: Kind, kind: Kind, value: Expr) -> Result<Expr, AllocError>
     ensures { IfOk result (λ e. e ≡ converted_to own kind value) }

@@ -1,18 +1,18 @@
 // What is seen behind declarations.
 ghost use Rattle.std.specs.Prelude.{◌≡◌, ◌∷◌, ◌++◌, map, length, if◌then◌else◌, true, ◌||◌, IfOk, IfErr, OnOk};
-ghost use Rattle.graph_of.specs.Builder.{scope as one_scope, after};
-ghost use Rattle.graph_of.specs.Edges.{scope_behind, sees_behind, seeing};
-ghost use Rattle.graph_of.specs.Statements.{declared_by};
-ghost use Rattle.graph_of.specs.Table.{piece};
+ghost use Rattle.c_lower_rules.specs.graph_of.Builder.{scope as one_scope, after};
+ghost use Rattle.c_lower_rules.specs.graph_of.Edges.{scope_behind, sees_behind, seeing};
+ghost use Rattle.c_lower_rules.specs.graph_of.Statements.{declared_by};
+ghost use Rattle.c_lower_rules.specs.graph_of.Table.{piece};
 ghost use Rattle.c_lower.specs.Forms.{has_any};
 
 use crate::around::{copied, shared};
 use crate::stop::Stop;
+use c_lower_rules::graph_of::{Around, Parts};
+use c_typed_trees::{TypedForm, TypedStatement};
 use cfa::{Scope, Variable, Variables};
 use containers::TryClone;
-use graph_of::{Around, Parts};
 use std::alloc::{AllocError, Global};
-use typed_trees::{TypedForm, TypedStatement};
 
 /// A variable, and what is seen further out.
 fn before(alloc: Global, variable: &Variable, sees: Scope) -> Result<(Scope, bool), AllocError>
@@ -66,7 +66,7 @@ fn declare_all(
     Ok((sees, fresh))
 }
 
-#[tactic(auto, unfolding(graph_of::specs::Builder::after))]
+#[tactic(auto, unfolding(c_lower_rules::specs::graph_of::Builder::after))]
 fn new_scope(seen: Scope, parts: &mut Parts) -> Result<u32, Stop>
     ensures number { IfOk result (λ number. number ≡ length parts.old.scopes) }
     ensures made { IfOk result (λ number. parts.new ≡ after (one_scope seen) parts.old) }

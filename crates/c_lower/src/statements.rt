@@ -1,12 +1,12 @@
 // Statements.
 ghost use Rattle.std.specs.Prelude.{◌≡◌, ◌+◌, ◌<◌, [], ◌∷◌, map, length, slice_get, MatchOption, IfOk, IfErr, OnOk};
 ghost use Rattle.std.specs.Option.{option_map};
-ghost use Rattle.graph_of.specs.Builder.{node, in_order, after};
-ghost use Rattle.graph_of.specs.Edges.{deciding, node_at, seeing, scope_behind};
-ghost use Rattle.graph_of.specs.Expressions.{value_of};
-ghost use Rattle.graph_of.specs.Statements.{block_row, arms_row, while_row, do_row, for_row, for_loop, for_test, for_step};
-ghost use Rattle.graph_of.specs.Switch.{groups_row, switch_row};
-ghost use Rattle.graph_of.specs.Table.{lowered, piece, group_of};
+ghost use Rattle.c_lower_rules.specs.graph_of.Builder.{node, in_order, after};
+ghost use Rattle.c_lower_rules.specs.graph_of.Edges.{deciding, node_at, seeing, scope_behind};
+ghost use Rattle.c_lower_rules.specs.graph_of.Expressions.{value_of};
+ghost use Rattle.c_lower_rules.specs.graph_of.Statements.{block_row, arms_row, while_row, do_row, for_row, for_loop, for_test, for_step};
+ghost use Rattle.c_lower_rules.specs.graph_of.Switch.{groups_row, switch_row};
+ghost use Rattle.c_lower_rules.specs.graph_of.Table.{lowered, piece, group_of};
 ghost use Rattle.c_lower.specs.Forms.{kind_of, arm_of, span_after};
 ghost use Rattle.c_lower.specs.Stopping.{IsStop};
 
@@ -18,11 +18,11 @@ use crate::rows::{array, assertion, assign, assuming, call, leave, local};
 use crate::scopes::{behind, behind_all};
 use crate::stop::Stop;
 use crate::values::{condition, part};
+use c_lower_rules::graph_of::{Around, Parts};
+use c_typed_trees::{TypedExpr, TypedForm, TypedGroup, TypedStatement};
 use cfa::StatementKind;
 use containers::Boxed;
-use graph_of::{Around, Parts};
 use std::alloc::Global;
-use typed_trees::{TypedExpr, TypedForm, TypedGroup, TypedStatement};
 
 /// The kind of a statement's edges.
 #[tactic(auto, unfolding(crate::specs::Forms::kind_of))]

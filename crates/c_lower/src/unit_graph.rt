@@ -1,19 +1,19 @@
 // The graph of a unit.
 ghost use Rattle.std.specs.Prelude.{◌≡◌, ◌≤◌, length, IfOk, IfErr};
 ghost use Rattle.cfa.specs.Contexts.{IsOnce};
-ghost use Rattle.typed_trees.specs.Fitting.{IsFitting};
-ghost use Rattle.graph_of.specs.GraphOf.{graph_of};
+ghost use Rattle.c_typed_trees.specs.Fitting.{IsFitting};
+ghost use Rattle.c_lower_rules.specs.graph_of.GraphOf.{graph_of};
 ghost use Rattle.c_lower.specs.Refusal.{IsRefusalOf};
 
 use crate::stop::Stop;
 use crate::units::make_parts;
+use c_lower_rules::graph_of::laws::graphs_are_once;
+use c_lower_rules::graph_rules::laws::graphs_fit;
+use c_typed_trees::Typed;
 use cfa::{Graph, GraphFault};
 use containers::Vector;
 use fq_core::{Fault, Name, Place, Refusal};
-use graph_of::laws::graphs_are_once;
-use graph_rules::laws::graphs_fit;
 use std::alloc::Global;
-use typed_trees::Typed;
 
 /// The code of a refusal for too many edges.
 const TOO_MANY_EDGES: u16 = 41;

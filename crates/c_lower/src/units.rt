@@ -2,21 +2,21 @@
 ghost use Rattle.std.specs.Prelude.{◌≡◌, ◌+◌, ◌<◌, ◌≤◌, ◌++◌, map, filter_map, length, IfOk, IfErr, OnOk};
 ghost use Rattle.std.specs.List.{flat_map};
 ghost use Rattle.cfa.specs.declared.parts.Variable.{Variable as OneVariable};
-ghost use Rattle.typed_trees.specs.declared.unit.Global.{Global as OneGlobal};
-ghost use Rattle.graph_of.specs.Builder.{in_order, after};
-ghost use Rattle.graph_of.specs.GraphOf.{graph_of, word_kind, function_of, functions_from, global_variables, global_cells, outermost, around_of, ends, bodies_from, made};
+ghost use Rattle.c_typed_trees.specs.declared.unit.Global.{Global as OneGlobal};
+ghost use Rattle.c_lower_rules.specs.graph_of.Builder.{in_order, after};
+ghost use Rattle.c_lower_rules.specs.graph_of.GraphOf.{graph_of, word_kind, function_of, functions_from, global_variables, global_cells, outermost, around_of, ends, bodies_from, made};
 ghost use Rattle.c_lower.specs.Stopping.{IsStop, IsTold};
 
 use crate::make::MOST_EDGES;
 use crate::statements::block;
 use crate::stop::Stop;
+use c_lower_rules::graph_of::{Around, Parts};
+use c_typed_trees::{Global as GlobalVariable, Typed, TypedFunction};
 use c_values::Kind;
 use cfa::{Function, GraphParts, InputFunction, Node, Scope, StatementKind, Variable, Variables};
 use containers::{TryClone, Vector};
 use fq_core::{Name, Span};
-use graph_of::{Around, Parts};
 use std::alloc::{AllocError, Global};
-use typed_trees::{Global as GlobalVariable, Typed, TypedFunction};
 
 /// Variables, and then those of further out.
 fn before_all(

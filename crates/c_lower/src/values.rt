@@ -1,9 +1,9 @@
 // Expressions, as values and as conditions.
 ghost use Rattle.std.specs.Prelude.{◌≡◌, ◌+◌, ◌<◌, [], map, IfOk, IfErr, OnOk};
 ghost use Rattle.c_values.specs.Kind.{int};
-ghost use Rattle.graph_of.specs.Builder.{after, made_by};
-ghost use Rattle.graph_of.specs.Edges.{put};
-ghost use Rattle.graph_of.specs.Expressions.{value_of, spot_of, spot_cell, calling_of, call_pure, truth_pure, choice_pure, part_row, words_in_order, both_cond, either_cond, other_cond};
+ghost use Rattle.c_lower_rules.specs.graph_of.Builder.{after, made_by};
+ghost use Rattle.c_lower_rules.specs.graph_of.Edges.{put};
+ghost use Rattle.c_lower_rules.specs.graph_of.Expressions.{value_of, spot_of, spot_cell, calling_of, call_pure, truth_pure, choice_pure, part_row, words_in_order, both_cond, either_cond, other_cond};
 ghost use Rattle.c_lower.specs.Flows.{end_of, gives_of};
 ghost use Rattle.c_lower.specs.Stopping.{IsStop};
 
@@ -14,12 +14,12 @@ use crate::make::{new_node, three_nodes};
 use crate::operands::{binary, constant, converted, loaded, temporary, unary};
 use crate::places::{cell_of, element_of};
 use crate::stop::Stop;
+use c_lower_rules::graph_of::{Around, Operand, Parts, Target};
+use c_typed_trees::{TypedCall, TypedExpr, TypedExprForm, TypedPlace};
 use c_values::{Kind, UnaryOp};
 use cfa::{CellPlace, Expr};
 use containers::Vector;
-use graph_of::{Around, Operand, Parts, Target};
 use std::alloc::Global;
-use typed_trees::{TypedCall, TypedExpr, TypedExprForm, TypedPlace};
 
 /// The cell of a place, where control is then.
 #[cycle(value)]

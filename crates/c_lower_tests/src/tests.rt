@@ -6,6 +6,7 @@ mod statements;
 use c_lex::{SourceText, are_small, tokens};
 use c_lower::make_parts;
 use c_parse::parse;
+use c_typed_trees::Typed;
 use c_types::check;
 use carried::CARRIED;
 use cfa::{Edge, GraphParts, Node, Operation, Scope};
@@ -16,7 +17,6 @@ use statements::STATEMENTS;
 use std::alloc::Global;
 use std::fmt::Write;
 use std::test::Fail;
-use typed_trees::Typed;
 
 type Case = (&'static str, &'static str);
 

@@ -9,12 +9,12 @@ use Rattle.c_parse.specs.declared.statement.Initial.{Initial}
 use Rattle.c_parse.specs.declared.statement.Initial.TheVariants as initials
 use Rattle.cfa.specs.declared.parts.Variable.{Variable}
 use Rattle.cfa.specs.declared.parts.VariablePlace.TheVariants as places
-use Rattle.typed_trees.specs.declared.statement.TypedForm.TheVariants as forms
-use Rattle.expression_types.specs.declared.typer.Typer.{Typer}
-use Rattle.expression_types.specs.Scopes.{newest}
-use Rattle.expression_types.specs.Rule.{with_fault, expect, local, bind, made_by, after}
-use Rattle.expression_types.specs.Expressions.{integer, piece, converted_to, constant}
-use Rattle.expression_types.proofs.RuleLaws.{pure_made, pure_after, then_made, then_after, fault_made, fault_after, expect_false, look_made, look_after, here_made, here_after}
+use Rattle.c_typed_trees.specs.declared.statement.TypedForm.TheVariants as forms
+use Rattle.c_type_rules.specs.declared.typer.Typer.{Typer}
+use Rattle.c_type_rules.specs.Scopes.{newest}
+use Rattle.c_type_rules.specs.Rule.{with_fault, expect, local, bind, made_by, after}
+use Rattle.c_type_rules.specs.Expressions.{integer, piece, converted_to, constant}
+use Rattle.c_type_rules.proofs.RuleLaws.{pure_made, pure_after, then_made, then_after, fault_made, fault_after, expect_false, look_made, look_after, here_made, here_after}
 use Rattle.c_types.specs.Declarations.{statement_of, same_level, unused, variable_of, bound_as, bind_variable, is_array_length, length_within, length_at, cells_of, is_list_for, value_for, values_for, begun, local_rule}
 
 module _ (d : Ident) (s : Typer) where

@@ -10,16 +10,16 @@ use Rattle.c_parse.specs.declared.expr.Ident.{Ident}
 use Rattle.c_parse.specs.declared.unit.Body.{Body}
 use Rattle.c_parse.specs.declared.unit.Parameter.{Parameter}
 use Rattle.cfa.specs.declared.parts.Variable.{Variable}
-use Rattle.typed_trees.specs.declared.expression.Callee.{Callee}
-use Rattle.typed_trees.specs.declared.unit.TypedFunction.{TypedFunction}
-use Rattle.expression_types.specs.declared.scopes.Bound.{Bound}
-use Rattle.expression_types.specs.declared.scopes.ParameterKind.{ParameterKind}
-use Rattle.expression_types.specs.declared.scopes.Signature.{Signature}
-use Rattle.expression_types.specs.declared.typer.Typer.{Typer}
-use Rattle.expression_types.specs.Faults.{first_with}
-use Rattle.expression_types.specs.Scopes.{newest}
-use Rattle.expression_types.specs.Rule.{Rule, expect, with_fault, bind, entered, left, at, made_by, after}
-use Rattle.expression_types.proofs.RuleLaws.{first_with-append, pure_made, pure_after, then_made, then_after, look_made, look_after, here_made, here_after, scope_made, scope_after}
+use Rattle.c_typed_trees.specs.declared.expression.Callee.{Callee}
+use Rattle.c_typed_trees.specs.declared.unit.TypedFunction.{TypedFunction}
+use Rattle.c_type_rules.specs.declared.scopes.Bound.{Bound}
+use Rattle.c_type_rules.specs.declared.scopes.ParameterKind.{ParameterKind}
+use Rattle.c_type_rules.specs.declared.scopes.Signature.{Signature}
+use Rattle.c_type_rules.specs.declared.typer.Typer.{Typer}
+use Rattle.c_type_rules.specs.Faults.{first_with}
+use Rattle.c_type_rules.specs.Scopes.{newest}
+use Rattle.c_type_rules.specs.Rule.{Rule, expect, with_fault, bind, entered, left, at, made_by, after}
+use Rattle.c_type_rules.proofs.RuleLaws.{first_with-append, pure_made, pure_after, then_made, then_after, look_made, look_after, here_made, here_after, scope_made, scope_after}
 use Rattle.c_types.specs.declared.parameters.Parameters.{Parameters}
 use Rattle.c_types.specs.Statements.{statements_typing}
 use Rattle.c_types.specs.Functions.{taken, parameters_rule, signature_of, may_declare, bound_function, declare, too_large, framed, bind_parameters, in_function, body_rule, function_of, defined_rule, function_rule, frame_state, limited, unframed}

@@ -12,10 +12,10 @@ use Rattle.c_parse.specs.declared.statement.Declarator.{Declarator}
 use Rattle.c_parse.specs.declared.statement.Initial.{Initial}
 use Rattle.c_parse.specs.declared.statement.Initial.TheVariants as initials
 use Rattle.cfa.specs.declared.parts.VariablePlace.TheVariants as places
-use Rattle.expression_types.specs.declared.typer.Typer.{Typer}
-use Rattle.expression_types.specs.Rule.{with_fault, expect, local, bind, made_by, after}
-use Rattle.expression_types.specs.Expressions.{constant}
-use Rattle.expression_types.proofs.RuleLaws.{pure_made, pure_after, then_made, then_after, fault_made, fault_after, expect_false, here_made, here_after}
+use Rattle.c_type_rules.specs.declared.typer.Typer.{Typer}
+use Rattle.c_type_rules.specs.Rule.{with_fault, expect, local, bind, made_by, after}
+use Rattle.c_type_rules.specs.Expressions.{constant}
+use Rattle.c_type_rules.proofs.RuleLaws.{pure_made, pure_after, then_made, then_after, fault_made, fault_after, expect_false, here_made, here_after}
 use Rattle.c_types.specs.Declarations.{unused, variable_of, bind_variable, length_at, cells_of, is_list_for, value_or_zero, first_value, first_values, with_zeros, begun_global, global_rule, enumerated, next_value, bound_constant, constant_rule, constants_from}
 
 module _ (kind : Kind) (t : ExprTree) (s : Typer) where

@@ -5,9 +5,9 @@ use Rattle.fq_core.specs.declared.span.Span.{Span}
 use Rattle.c_parse.specs.declared.expr.Ident.{Ident}
 use Rattle.c_parse.specs.declared.unit.Parameter.{Parameter}
 use Rattle.cfa.specs.declared.parts.Variable.{Variable}
-use Rattle.expression_types.specs.declared.typer.Typer.{Typer}
-use Rattle.expression_types.specs.Rule.{expect, made_by, after}
-use Rattle.expression_types.proofs.RuleLaws.{pure_made, pure_after, then_made, then_after}
+use Rattle.c_type_rules.specs.declared.typer.Typer.{Typer}
+use Rattle.c_type_rules.specs.Rule.{expect, made_by, after}
+use Rattle.c_type_rules.proofs.RuleLaws.{pure_made, pure_after, then_made, then_after}
 use Rattle.c_types.specs.declared.parameters.Parameters.{Parameters}
 use Rattle.c_types.specs.Declarations.{unused, variable_of, bind_variable, length_at}
 use Rattle.c_types.specs.Functions.{name_of, name_span, parameter_place, cell_behind, lent_behind, named_parameter, parameter_rule, with_parameter, parameters_from, parameters_rule, bind_parameters}

@@ -4,14 +4,14 @@ use Rattle.fq_core.specs.declared.span.Span.{Span}
 use Rattle.c_values.specs.declared.kinds.Kind.{Kind}
 use Rattle.c_parse.specs.declared.expr.ExprTree.{ExprTree}
 use Rattle.c_parse.specs.declared.expr.Ident.{Ident}
-use Rattle.typed_trees.specs.declared.expression.TypedExpr.{TypedExpr}
-use Rattle.typed_trees.specs.declared.statement.TypedStatement.{TypedStatement}
-use Rattle.typed_trees.specs.declared.statement.TypedForm.TheVariants as forms
-use Rattle.expression_types.specs.declared.typer.Typer.{Typer}
-use Rattle.expression_types.specs.Scopes.{newest, has_name, has_case}
-use Rattle.expression_types.specs.Rule.{with_fault, expect, look, bind_label, bind_case, made_by, after}
-use Rattle.expression_types.specs.Expressions.{integer, piece, converted_to, place_of, array_at, call_rule, constant}
-use Rattle.expression_types.proofs.RuleLaws.{pure_made, pure_after, then_made, then_after, fault_made, fault_after, expect_false, look_made, look_after, is_label_made, is_label_after, is_case_made, is_case_after}
+use Rattle.c_typed_trees.specs.declared.expression.TypedExpr.{TypedExpr}
+use Rattle.c_typed_trees.specs.declared.statement.TypedStatement.{TypedStatement}
+use Rattle.c_typed_trees.specs.declared.statement.TypedForm.TheVariants as forms
+use Rattle.c_type_rules.specs.declared.typer.Typer.{Typer}
+use Rattle.c_type_rules.specs.Scopes.{newest, has_name, has_case}
+use Rattle.c_type_rules.specs.Rule.{with_fault, expect, look, bind_label, bind_case, made_by, after}
+use Rattle.c_type_rules.specs.Expressions.{integer, piece, converted_to, place_of, array_at, call_rule, constant}
+use Rattle.c_type_rules.proofs.RuleLaws.{pure_made, pure_after, then_made, then_after, fault_made, fault_after, expect_false, look_made, look_after, is_label_made, is_label_after, is_case_made, is_case_after}
 use Rattle.c_types.specs.Declarations.{statement_of}
 use Rattle.c_types.specs.Statements.{integer_named, variable_at, place_rule, one_of, test_rule, unused_label, fresh, case_valued, case_rule, return_rule, call_statement}
 

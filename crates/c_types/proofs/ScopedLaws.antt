@@ -6,15 +6,15 @@ use Rattle.c_parse.specs.declared.expr.ExprTree.{ExprTree}
 use Rattle.c_parse.specs.SequencePoints.{has_sequence_point}
 use Rattle.cfa.specs.declared.parts.Scope.{Scope}
 use Rattle.cfa.specs.declared.parts.Variable.{Variable}
-use Rattle.expression_types.specs.declared.faults.Found.{Found}
-use Rattle.expression_types.specs.declared.scopes.Bound.{Bound}
-use Rattle.expression_types.specs.declared.scopes.Meaning.TheVariants as meanings
-use Rattle.expression_types.specs.declared.typer.Sort.{Sort}
-use Rattle.expression_types.specs.declared.typer.Typer.{Typer}
-use Rattle.expression_types.specs.Expressions.{typing}
-use Rattle.expression_types.specs.Faults.{first_with, first_of}
-use Rattle.expression_types.specs.Rule.{made_by, after}
-use Rattle.expression_types.proofs.FirstLaws.{none_is_none}
+use Rattle.c_type_rules.specs.declared.faults.Found.{Found}
+use Rattle.c_type_rules.specs.declared.scopes.Bound.{Bound}
+use Rattle.c_type_rules.specs.declared.scopes.Meaning.TheVariants as meanings
+use Rattle.c_type_rules.specs.declared.typer.Sort.{Sort}
+use Rattle.c_type_rules.specs.declared.typer.Typer.{Typer}
+use Rattle.c_type_rules.specs.Expressions.{typing}
+use Rattle.c_type_rules.specs.Faults.{first_with, first_of}
+use Rattle.c_type_rules.specs.Rule.{made_by, after}
+use Rattle.c_type_rules.proofs.FirstLaws.{none_is_none}
 use Rattle.c_types.specs.Declarations.{bound_as}
 use Rattle.c_types.specs.Scoped.{names_in, at_scope, sort_expr, faultless_expr, done_expr, expression_in}
 

@@ -13,14 +13,14 @@ use Rattle.c_parse.specs.declared.statement.Form.TheVariants as form
 use Rattle.c_parse.specs.declared.statement.Form.TheOpen.{Form-F}
 use Rattle.c_parse.specs.declared.statement.Statement.{Statement}
 use Rattle.c_parse.specs.declared.statement.Group.{Group, out-Group}
-use Rattle.typed_trees.specs.declared.statement.TypedStatement.{TypedStatement}
-use Rattle.typed_trees.specs.declared.statement.TypedGroup.{TypedGroup}
-use Rattle.typed_trees.specs.declared.statement.TypedForm.TheVariants as forms
-use Rattle.expression_types.specs.declared.typer.Typer.{Typer}
-use Rattle.expression_types.specs.Kinds.{promotion}
-use Rattle.expression_types.specs.Rule.{Rule, pure, ◌then◌, expect, temporary, in_scope, in_switch, each, alone_in, entered, left, with_cases, made_by, after}
-use Rattle.expression_types.specs.Expressions.{integer, piece, converted_to}
-use Rattle.expression_types.proofs.RuleLaws.{pure_made, pure_after, then_made, then_after, scope_made, scope_after, switch_made, switch_after, each_map}
+use Rattle.c_typed_trees.specs.declared.statement.TypedStatement.{TypedStatement}
+use Rattle.c_typed_trees.specs.declared.statement.TypedGroup.{TypedGroup}
+use Rattle.c_typed_trees.specs.declared.statement.TypedForm.TheVariants as forms
+use Rattle.c_type_rules.specs.declared.typer.Typer.{Typer}
+use Rattle.c_type_rules.specs.Kinds.{promotion}
+use Rattle.c_type_rules.specs.Rule.{Rule, pure, ◌then◌, expect, temporary, in_scope, in_switch, each, alone_in, entered, left, with_cases, made_by, after}
+use Rattle.c_type_rules.specs.Expressions.{integer, piece, converted_to}
+use Rattle.c_type_rules.proofs.RuleLaws.{pure_made, pure_after, then_made, then_after, scope_made, scope_after, switch_made, switch_after, each_map}
 use Rattle.c_types.specs.declared.around.Around.{Around}
 use Rattle.c_types.specs.Declarations.{statement_of, locals_rule}
 use Rattle.c_types.specs.Statements.{in_loop, in_cases, place_rule, assigned, step_operator, one_at, Part, GroupPart, one_of, in_turn, single, alone, arm_rule, last_rule, first_rule, test_rule, next_rule, unused_label, cases_rule, group_of, group_rule, groups_rule, only, return_rule, form_rule, form_of, group, part, statement_rule, arm_of, arms_typing, groups_typing, statements_typing, call_statement, switch_rule}

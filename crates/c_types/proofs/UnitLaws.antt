@@ -15,13 +15,13 @@ use Rattle.c_parse.specs.declared.unit.Body.{Body}
 use Rattle.c_parse.specs.declared.unit.Item.{Item}
 use Rattle.c_parse.specs.declared.unit.Item.TheVariants as items
 use Rattle.c_parse.specs.declared.unit.Parameter.{Parameter}
-use Rattle.typed_trees.specs.declared.unit.Typed.{Typed}
-use Rattle.expression_types.specs.declared.faults.Found.{Found}
-use Rattle.expression_types.specs.declared.typer.Typer.{Typer}
-use Rattle.expression_types.specs.Faults.{first_with, first_of}
-use Rattle.expression_types.specs.Rule.{pure, made_by, after}
-use Rattle.expression_types.proofs.FirstLaws.{first_is_first, none_is_none}
-use Rattle.expression_types.proofs.RuleLaws.{pure_made, pure_after, then_made, then_after}
+use Rattle.c_typed_trees.specs.declared.unit.Typed.{Typed}
+use Rattle.c_type_rules.specs.declared.faults.Found.{Found}
+use Rattle.c_type_rules.specs.declared.typer.Typer.{Typer}
+use Rattle.c_type_rules.specs.Faults.{first_with, first_of}
+use Rattle.c_type_rules.specs.Rule.{pure, made_by, after}
+use Rattle.c_type_rules.proofs.FirstLaws.{first_is_first, none_is_none}
+use Rattle.c_type_rules.proofs.RuleLaws.{pure_made, pure_after, then_made, then_after}
 use Rattle.c_types.specs.declared.program.Program.{Program}
 use Rattle.c_types.specs.declared.units.Parts.{Parts}
 use Rattle.c_types.specs.Declarations.{globals_rule, constants_from}

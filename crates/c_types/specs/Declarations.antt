@@ -13,15 +13,15 @@ use Rattle.c_parse.specs.declared.statement.Initial.TheVariants as initials
 use Rattle.cfa.specs.declared.parts.Variable.{Variable}
 use Rattle.cfa.specs.declared.parts.VariablePlace.{VariablePlace}
 use Rattle.cfa.specs.declared.parts.VariablePlace.TheVariants as places
-use Rattle.typed_trees.specs.declared.expression.TypedExpr.{TypedExpr}
-use Rattle.typed_trees.specs.declared.statement.TypedStatement.{TypedStatement, roll-TypedStatement}
-use Rattle.typed_trees.specs.declared.statement.TypedForm.{TypedForm}
-use Rattle.typed_trees.specs.declared.statement.TypedForm.TheVariants as forms
-use Rattle.typed_trees.specs.declared.unit.Global.{Global}
-use Rattle.expression_types.specs.declared.scopes.Bound.{Bound}
-use Rattle.expression_types.specs.declared.scopes.Meaning.TheVariants as meanings
-use Rattle.expression_types.specs.Rule.{Rule, pure, ◌then◌, fault, expect, look, here, local, bind, each, alone_in}
-use Rattle.expression_types.specs.Expressions.{integer, piece, converted_to, constant}
+use Rattle.c_typed_trees.specs.declared.expression.TypedExpr.{TypedExpr}
+use Rattle.c_typed_trees.specs.declared.statement.TypedStatement.{TypedStatement, roll-TypedStatement}
+use Rattle.c_typed_trees.specs.declared.statement.TypedForm.{TypedForm}
+use Rattle.c_typed_trees.specs.declared.statement.TypedForm.TheVariants as forms
+use Rattle.c_typed_trees.specs.declared.unit.Global.{Global}
+use Rattle.c_type_rules.specs.declared.scopes.Bound.{Bound}
+use Rattle.c_type_rules.specs.declared.scopes.Meaning.TheVariants as meanings
+use Rattle.c_type_rules.specs.Rule.{Rule, pure, ◌then◌, fault, expect, look, here, local, bind, each, alone_in}
+use Rattle.c_type_rules.specs.Expressions.{integer, piece, converted_to, constant}
 
 abbrev pub statement_of : Span → TypedForm → TypedStatement
 statement_of span form = roll-TypedStatement (record { span = span; form = form })

@@ -11,18 +11,18 @@ use Rattle.cfa.specs.declared.parts.VariablePlace.{VariablePlace}
 use Rattle.cfa.specs.declared.parts.VariablePlace.TheVariants as places
 use Rattle.cfa.specs.Each.{matched}
 use Rattle.cfa.specs.Kinds.{same_kind}
-use Rattle.typed_trees.specs.declared.expression.Callee.{Callee}
-use Rattle.typed_trees.specs.declared.statement.TypedStatement.{TypedStatement}
-use Rattle.typed_trees.specs.declared.unit.TypedFunction.{TypedFunction}
-use Rattle.expression_types.specs.declared.faults.Found.{Found}
-use Rattle.expression_types.specs.declared.scopes.Bound.{Bound}
-use Rattle.expression_types.specs.declared.scopes.ParameterKind.{ParameterKind}
-use Rattle.expression_types.specs.declared.scopes.Signature.{Signature}
-use Rattle.expression_types.specs.declared.scopes.Meaning.{Meaning}
-use Rattle.expression_types.specs.declared.scopes.Meaning.TheVariants as meanings
-use Rattle.expression_types.specs.declared.typer.Typer.{Typer}
-use Rattle.expression_types.specs.Faults.{first_with}
-use Rattle.expression_types.specs.Rule.{At, Rule, pure, ◌then◌, expect, look, here, bind, in_scope}
+use Rattle.c_typed_trees.specs.declared.expression.Callee.{Callee}
+use Rattle.c_typed_trees.specs.declared.statement.TypedStatement.{TypedStatement}
+use Rattle.c_typed_trees.specs.declared.unit.TypedFunction.{TypedFunction}
+use Rattle.c_type_rules.specs.declared.faults.Found.{Found}
+use Rattle.c_type_rules.specs.declared.scopes.Bound.{Bound}
+use Rattle.c_type_rules.specs.declared.scopes.ParameterKind.{ParameterKind}
+use Rattle.c_type_rules.specs.declared.scopes.Signature.{Signature}
+use Rattle.c_type_rules.specs.declared.scopes.Meaning.{Meaning}
+use Rattle.c_type_rules.specs.declared.scopes.Meaning.TheVariants as meanings
+use Rattle.c_type_rules.specs.declared.typer.Typer.{Typer}
+use Rattle.c_type_rules.specs.Faults.{first_with}
+use Rattle.c_type_rules.specs.Rule.{At, Rule, pure, ◌then◌, expect, look, here, bind, in_scope}
 use Rattle.c_types.specs.declared.around.Around.{Around}
 use Rattle.c_types.specs.declared.parameters.Parameters.{Parameters}
 use Rattle.c_types.specs.Declarations.{unused, variable_of, bind_variable, length_at}

@@ -5,9 +5,9 @@ use Rattle.fq_core.specs.declared.refusal.Place.TheVariants as place
 use Rattle.fq_core.specs.declared.refusal.Fault.{Fault}
 use Rattle.c_parse.specs.declared.unit.Item.{Item}
 use Rattle.fq_core.specs.Refusals.{refusal}
-use Rattle.typed_trees.specs.declared.unit.Typed.{Typed}
-use Rattle.expression_types.specs.declared.faults.Found.{Found}
-use Rattle.expression_types.specs.Faults.{IsFirst, first_of}
+use Rattle.c_typed_trees.specs.declared.unit.Typed.{Typed}
+use Rattle.c_type_rules.specs.declared.faults.Found.{Found}
+use Rattle.c_type_rules.specs.Faults.{IsFirst, first_of}
 use Rattle.c_types.specs.Units.{faults_of, typed_of}
 
 -- a limit is told by its number, and any other fault by its line

@@ -5,13 +5,13 @@ use Rattle.c_parse.specs.SequencePoints.{has_sequence_point}
 use Rattle.cfa.specs.declared.expr.Expr.{Expr}
 use Rattle.cfa.specs.declared.parts.Scope.{Scope}
 use Rattle.cfa.specs.declared.parts.Variable.{Variable}
-use Rattle.expression_types.specs.declared.faults.Found.{Found}
-use Rattle.expression_types.specs.declared.scopes.Bound.{Bound}
-use Rattle.expression_types.specs.declared.typer.Sort.{Sort}
-use Rattle.expression_types.specs.declared.typer.Sort.TheVariants as sorts
-use Rattle.expression_types.specs.Expressions.{typing}
-use Rattle.expression_types.specs.Rule.{At, Done}
-use Rattle.expression_types.specs.Values.{expr_of}
+use Rattle.c_type_rules.specs.declared.faults.Found.{Found}
+use Rattle.c_type_rules.specs.declared.scopes.Bound.{Bound}
+use Rattle.c_type_rules.specs.declared.typer.Sort.{Sort}
+use Rattle.c_type_rules.specs.declared.typer.Sort.TheVariants as sorts
+use Rattle.c_type_rules.specs.Expressions.{typing}
+use Rattle.c_type_rules.specs.Rule.{At, Done}
+use Rattle.c_type_rules.specs.Values.{expr_of}
 use Rattle.c_types.specs.Declarations.{bound_as}
 
 -- the variables of a scope, the innermost first, are bound with the innermost last

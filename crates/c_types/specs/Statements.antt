@@ -13,19 +13,19 @@ use Rattle.c_parse.specs.declared.statement.Form.TheOpen.{Form-F, Group-F, State
 use Rattle.c_parse.specs.declared.statement.Statement.{Statement, fold-Statement}
 use Rattle.c_parse.specs.declared.statement.Group.{Group, fold-Group}
 use Rattle.cfa.specs.declared.parts.Variable.{Variable}
-use Rattle.typed_trees.specs.declared.expression.TypedExpr.{TypedExpr}
-use Rattle.typed_trees.specs.declared.expression.TypedExprForm.TheVariants as values
-use Rattle.typed_trees.specs.declared.expression.TypedPlace.{TypedPlace, out-TypedPlace}
-use Rattle.typed_trees.specs.declared.statement.TypedStatement.{TypedStatement}
-use Rattle.typed_trees.specs.declared.statement.TypedGroup.{TypedGroup, roll-TypedGroup}
-use Rattle.typed_trees.specs.declared.statement.TypedForm.{TypedForm}
-use Rattle.typed_trees.specs.declared.statement.TypedForm.TheVariants as forms
-use Rattle.expression_types.specs.declared.scopes.Bound.{Bound}
-use Rattle.expression_types.specs.declared.scopes.Meaning.{Meaning}
-use Rattle.expression_types.specs.declared.scopes.Meaning.TheVariants as meanings
-use Rattle.expression_types.specs.Kinds.{promotion, left_kind, right_kind}
-use Rattle.expression_types.specs.Rule.{Rule, pure, ◌then◌, fault, expect, look, temporary, is_label, bind_label, is_case, bind_case, in_scope, in_switch, each, alone_in}
-use Rattle.expression_types.specs.Expressions.{integer, piece, typed, converted_to, place_of, no_variable, array_at, call_rule, constant}
+use Rattle.c_typed_trees.specs.declared.expression.TypedExpr.{TypedExpr}
+use Rattle.c_typed_trees.specs.declared.expression.TypedExprForm.TheVariants as values
+use Rattle.c_typed_trees.specs.declared.expression.TypedPlace.{TypedPlace, out-TypedPlace}
+use Rattle.c_typed_trees.specs.declared.statement.TypedStatement.{TypedStatement}
+use Rattle.c_typed_trees.specs.declared.statement.TypedGroup.{TypedGroup, roll-TypedGroup}
+use Rattle.c_typed_trees.specs.declared.statement.TypedForm.{TypedForm}
+use Rattle.c_typed_trees.specs.declared.statement.TypedForm.TheVariants as forms
+use Rattle.c_type_rules.specs.declared.scopes.Bound.{Bound}
+use Rattle.c_type_rules.specs.declared.scopes.Meaning.{Meaning}
+use Rattle.c_type_rules.specs.declared.scopes.Meaning.TheVariants as meanings
+use Rattle.c_type_rules.specs.Kinds.{promotion, left_kind, right_kind}
+use Rattle.c_type_rules.specs.Rule.{Rule, pure, ◌then◌, fault, expect, look, temporary, is_label, bind_label, is_case, bind_case, in_scope, in_switch, each, alone_in}
+use Rattle.c_type_rules.specs.Expressions.{integer, piece, typed, converted_to, place_of, no_variable, array_at, call_rule, constant}
 use Rattle.c_types.specs.declared.around.Around.{Around}
 use Rattle.c_types.specs.Declarations.{statement_of, locals_rule}
 

@@ -6,12 +6,12 @@ use Rattle.c_parse.specs.declared.unit.Body.{Body}
 use Rattle.c_parse.specs.declared.unit.Item.{Item}
 use Rattle.c_parse.specs.declared.unit.Item.TheVariants as items
 use Rattle.c_parse.specs.declared.unit.Parameter.{Parameter}
-use Rattle.typed_trees.specs.declared.expression.Callee.{Callee}
-use Rattle.typed_trees.specs.declared.expression.Callee.TheVariants as callees
-use Rattle.typed_trees.specs.declared.unit.Typed.{Typed}
-use Rattle.expression_types.specs.declared.faults.Found.{Found}
-use Rattle.expression_types.specs.Rule.{At, Done, Rule, pure, ◌then◌}
-use Rattle.expression_types.specs.Scopes.{has_name, name_place}
+use Rattle.c_typed_trees.specs.declared.expression.Callee.{Callee}
+use Rattle.c_typed_trees.specs.declared.expression.Callee.TheVariants as callees
+use Rattle.c_typed_trees.specs.declared.unit.Typed.{Typed}
+use Rattle.c_type_rules.specs.declared.faults.Found.{Found}
+use Rattle.c_type_rules.specs.Rule.{At, Done, Rule, pure, ◌then◌}
+use Rattle.c_type_rules.specs.Scopes.{has_name, name_place}
 use Rattle.c_types.specs.declared.program.Inputs.{Inputs}
 use Rattle.c_types.specs.declared.program.Program.{Program}
 use Rattle.c_types.specs.declared.units.Parts.{Parts}

@@ -1,17 +1,17 @@
 // The typing of declarations in a block.
 ghost use Rattle.std.specs.Prelude.{◌≡◌, ◌++◌, IfOk, OnOk};
-ghost use Rattle.expression_types.specs.Rule.{after, made_by};
-ghost use Rattle.expression_types.specs.Scopes.{newest};
+ghost use Rattle.c_type_rules.specs.Rule.{after, made_by};
+ghost use Rattle.c_type_rules.specs.Scopes.{newest};
 ghost use Rattle.c_types.specs.Declarations.{begun, bind_variable, cells_of, is_list_for, length_at, length_within, local_rule, locals_rule, same_level, unused, value_for, values_for};
 
 use c_parse::{Declarator, ExprTree, Ident, Initial};
+use c_type_rules::{Bound, Meaning, Typer, converted_to};
+use c_typed_trees::{TypedExpr, TypedForm, TypedStatement};
 use c_values::Kind;
 use cfa::{Variable, VariablePlace};
 use containers::{TryClone, Vector};
-use expression_types::{Bound, Meaning, Typer, converted_to};
 use fq_core::{Name, Span};
 use std::alloc::{AllocError, Global};
-use typed_trees::{TypedExpr, TypedForm, TypedStatement};
 
 pub(crate) fn cells_of(length: Option<u32>) -> u32
     ensures { result ≡ cells_of length }

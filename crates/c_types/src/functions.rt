@@ -2,22 +2,22 @@
 ghost use Rattle.std.specs.Prelude.{◌≡◌, ◌++◌, map, IfOk, OnOk};
 ghost use Rattle.std.specs.Option.{is_some};
 ghost use Rattle.cfa.specs.Each.{matched};
-ghost use Rattle.expression_types.specs.Rule.{after, made_by};
-ghost use Rattle.expression_types.specs.Scopes.{newest};
+ghost use Rattle.c_type_rules.specs.Rule.{after, made_by};
+ghost use Rattle.c_type_rules.specs.Scopes.{newest};
 ghost use Rattle.c_types.specs.Functions.{body_rule, declare, defined_rule, frame_state, framed, function_rule, in_function, left_frame, bared, limited, may_declare, same_optional, same_parameter, same_result, same_signature, signature_of, taken, was_defined};
 
 use crate::around::Around;
 use crate::parameters::{Parameters, bind_parameters, parameter_list};
 use crate::statements::in_turn;
 use c_parse::{Body, Ident, Parameter};
+use c_type_rules::{Bound, Cases, Meaning, Names, ParameterKind, Signature, Typer};
+use c_typed_trees::{Callee, TypedFunction, TypedStatement};
 use c_values::Kind;
 use cfa::Variable;
 use containers::{TryClone, Vector};
-use expression_types::{Bound, Cases, Meaning, Names, ParameterKind, Signature, Typer};
 use fq_core::{Name, Span};
 use std::alloc::{AllocError, Global};
 use std::mem::replace;
-use typed_trees::{Callee, TypedFunction, TypedStatement};
 
 fn taken(alloc: Global, variables: &[Variable]) -> Result<Vector<ParameterKind>, AllocError>
     ensures { IfOk result (λ list. list ≡ map taken variables.now) }

@@ -1,16 +1,16 @@
 // The typing of the variables and enumeration constants of a file.
 ghost use Rattle.std.specs.Prelude.{◌≡◌, ◌+◌, ◌++◌, nat_le, IfOk, OnOk};
-ghost use Rattle.expression_types.specs.Rule.{after, made_by};
+ghost use Rattle.c_type_rules.specs.Rule.{after, made_by};
 ghost use Rattle.c_types.specs.Declarations.{begun_global, constant_rule, constants_from, enumerated, first_value, first_values, global_rule, globals_rule, next_value, with_zeros};
 
 use crate::declarations::{bind_variable, cells_of, is_list_for, length_at, unused};
 use c_parse::{Declarator, ExprTree, Ident, Initial};
+use c_type_rules::{Bound, Meaning, Typer};
+use c_typed_trees::Global as GlobalVariable;
 use c_values::{Kind, add, is_value};
 use cfa::{Variable, VariablePlace};
 use containers::{TryClone, Vector};
-use expression_types::{Bound, Meaning, Typer};
 use std::alloc::{AllocError, Global};
-use typed_trees::Global as GlobalVariable;
 
 // The first value of a cell.
 #[tactic(auto, using(crate::proofs::GlobalLaws::first_laws))]

@@ -1,13 +1,13 @@
 // The typing of parameters.
 ghost use Rattle.std.specs.Prelude.{◌≡◌, ◌+◌, IfOk, OnOk};
-ghost use Rattle.expression_types.specs.Rule.{after, made_by};
+ghost use Rattle.c_type_rules.specs.Rule.{after, made_by};
 ghost use Rattle.c_types.specs.Functions.{bind_parameters, cell_behind, lent_behind, named_parameter, parameter_place, parameter_rule, parameters_rule, name_of, name_span};
 
 use crate::declarations::{bind_variable, length_at, unused};
 use c_parse::{Ident, Parameter};
+use c_type_rules::Typer;
 use cfa::{Variable, VariablePlace};
 use containers::{TryClone, Vector};
-use expression_types::Typer;
 use fq_core::{Name, Span};
 use std::alloc::{AllocError, Global};
 

@@ -1,17 +1,17 @@
 // The typing of assignments.
 ghost use Rattle.std.specs.Prelude.{◌≡◌, IfOk, OnOk};
-ghost use Rattle.expression_types.specs.Rule.{after, made_by};
+ghost use Rattle.c_type_rules.specs.Rule.{after, made_by};
 ghost use Rattle.c_types.specs.Statements.{assigned, in_cases, in_loop, one_at, place_rule, step_operator, variable_at};
 
 use crate::around::Around;
 use c_parse::{ExprTree, Ident};
+use c_type_rules::{Meaning, Typer, converted_to, left_kind, no_variable, right_kind};
+use c_typed_trees::{TypedExpr, TypedExprForm, TypedForm, TypedPlace};
 use c_values::{BinaryOp, Kind};
 use cfa::Variable;
 use containers::TryClone;
-use expression_types::{Meaning, Typer, converted_to, left_kind, no_variable, right_kind};
 use fq_core::{Name, Span};
 use std::alloc::{AllocError, Global};
-use typed_trees::{TypedExpr, TypedExprForm, TypedForm, TypedPlace};
 
 /// What surrounds the body of a loop.
 pub(crate) fn in_loop(around: Around) -> Around

@@ -3,13 +3,13 @@ ghost use Rattle.std.specs.Prelude.{◌≡◌, IfOk, OnOk};
 ghost use Rattle.c_types.specs.Units.{callee_of, declarations_of, definitions_of, input_unless, inputs_among, inputs_of, program_of, with_declaration, with_definition, with_input, with_name, with_prototype};
 
 use c_parse::{Body, Item, Parameter};
+use c_type_rules::Names;
+use c_typed_trees::Callee;
 use c_values::Kind;
 use cfa::InputFunction;
 use containers::{TryClone, Vector};
-use expression_types::Names;
 use fq_core::Name;
 use std::alloc::{AllocError, Global};
-use typed_trees::Callee;
 
 /// The functions that are declared and nowhere defined, take no parameters and give an integer.
 #[derive(Drop)]

@@ -3,9 +3,9 @@ ghost use Rattle.std.specs.Prelude.{◌≡◌, IfOk};
 ghost use Rattle.c_types.specs.Scoped.{expression_in, names_in, sort_expr};
 
 use c_parse::ExprTree;
+use c_type_rules::{Bound, Cases, Meaning, Names, Scopes, Sort, Typer, expr_of};
 use cfa::{Expr, Scope, Variable, Variables};
 use containers::{TryClone, Vector};
-use expression_types::{Bound, Cases, Meaning, Names, Scopes, Sort, Typer, expr_of};
 use fq_core::Memory;
 use std::alloc::{AllocError, Global};
 

@@ -1,6 +1,6 @@
 // The typing of statements.
 ghost use Rattle.std.specs.Prelude.{◌≡◌, ◌++◌, ◌∷◌, [], option_map, IfOk, OnOk};
-ghost use Rattle.expression_types.specs.Rule.{after, made_by};
+ghost use Rattle.c_type_rules.specs.Rule.{after, made_by};
 ghost use Rattle.c_types.specs.Declarations.{statement_of};
 ghost use Rattle.c_types.specs.Statements.{alone, arm_of, arm_rule, arms_typing, call_statement, first_rule, group, group_rule, groups_typing, last_rule, next_rule, one_of, part, return_rule, single, statement_rule, statements_typing, switch_rule, test_rule};
 
@@ -9,12 +9,12 @@ use crate::declarations::locals;
 use crate::places::{assigned, in_cases, in_loop, one_at, place, step_operator};
 use crate::switches::{cases, unused_label};
 use c_parse::{ExprTree, Form, Group, Ident, Statement};
+use c_type_rules::{Cases, Typer, converted_to, promotion};
+use c_typed_trees::{TypedExpr, TypedForm, TypedGroup, TypedStatement};
 use c_values::Kind;
 use containers::{Boxed, TryClone, Vector};
-use expression_types::{Cases, Typer, converted_to, promotion};
 use fq_core::Span;
 use std::alloc::{AllocError, Global};
-use typed_trees::{TypedExpr, TypedForm, TypedGroup, TypedStatement};
 
 // The one statement of a list, or a block of the list.
 #[tactic(auto, using(crate::proofs::PartLaws::one_of_laws))]

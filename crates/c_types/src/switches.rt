@@ -1,12 +1,12 @@
 // The typing of labels: those of a function, and `case` and `default`.
 ghost use Rattle.std.specs.Prelude.{◌≡◌, IfOk, OnOk};
-ghost use Rattle.expression_types.specs.Rule.{after, made_by};
+ghost use Rattle.c_type_rules.specs.Rule.{after, made_by};
 ghost use Rattle.c_types.specs.Statements.{case_rule, case_valued, cases_rule, fresh, unused_label};
 
 use c_parse::{CaseLabel, ExprTree, Ident};
+use c_type_rules::Typer;
 use c_values::Kind;
 use containers::{TryClone, Vector};
-use expression_types::Typer;
 use fq_core::Span;
 use std::alloc::{AllocError, Global};
 

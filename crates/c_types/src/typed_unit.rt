@@ -2,17 +2,17 @@
 ghost use Rattle.std.specs.Prelude.{◌≡◌, ℕ, List, [], Option, None, Ok, IfOk, IsErrOf};
 ghost use Rattle.fq_core.specs.declared.refusal.Place.{Place};
 ghost use Rattle.fq_core.specs.Refusals.{refusal, IsUnlessMemory};
-ghost use Rattle.expression_types.specs.Faults.{first_of};
+ghost use Rattle.c_type_rules.specs.Faults.{first_of};
 ghost use Rattle.c_types.specs.Refusal.{IsRefused, IsTyped, place_of_fault, refusal_of, outcome};
 ghost use Rattle.c_types.specs.Units.{faults_of, typed_of};
 
 use crate::program::{Program, declarations, program_of};
 use crate::units::items;
 use c_parse::{Item, Unit};
-use expression_types::{Cases, Found, Names, Scopes, Typer};
+use c_type_rules::{Cases, Found, Names, Scopes, Typer};
+use c_typed_trees::Typed;
 use fq_core::{Fault, Place, Refusal};
 use std::alloc::Global;
-use typed_trees::Typed;
 
 fn place_of_fault(found: Found) -> Place
     ensures { result ≡ place_of_fault found }

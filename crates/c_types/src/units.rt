@@ -1,16 +1,16 @@
 // The typing of items.
 ghost use Rattle.std.specs.Prelude.{◌≡◌, OnOk, IfOk};
-ghost use Rattle.expression_types.specs.Rule.{after, made_by};
+ghost use Rattle.c_type_rules.specs.Rule.{after, made_by};
 ghost use Rattle.c_types.specs.Units.{item_rule, items_rule, joined_parts};
 
 use crate::functions::function;
 use crate::globals::{constants, globals};
 use crate::program::Program;
 use c_parse::Item;
+use c_type_rules::Typer;
+use c_typed_trees::{Global as GlobalVariable, TypedFunction};
 use containers::Vector;
-use expression_types::Typer;
 use std::alloc::{AllocError, Global};
-use typed_trees::{Global as GlobalVariable, TypedFunction};
 
 /// What the items of a unit are.
 #[derive(Drop)]

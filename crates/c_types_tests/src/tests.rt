@@ -3,6 +3,7 @@ mod printed;
 
 use c_lex::{SourceText, are_small, tokens};
 use c_parse::{Form, Item, Unit, parse};
+use c_typed_trees::Typed;
 use c_types::{check, type_expression};
 use c_values::Kind;
 use cfa::{Scope, Variable, VariablePlace, Variables};
@@ -13,7 +14,6 @@ use std::alloc::Global;
 use std::fmt::Write;
 use std::test::Fail;
 use test_sources::triangles;
-use typed_trees::Typed;
 
 fn unit_of(alloc: Global, source: &str) -> Result<Unit, Fault> {
     let name = Name::new(alloc, b"t.c")?;

@@ -14,7 +14,7 @@ use crate::name_tree::{self, NameTree};
 use crate::parts::{Variable, VariablePlace};
 use crate::rules::FunctionRoom;
 use c_values::is_kind;
-use chains::{Chain, ChainIter};
+use containers::chains::{Chain, ChainIter};
 use fq_core::Name;
 use std::alloc::{AllocError, Global};
 use std::fmt;

@@ -3,3 +3,4 @@ pub mod Clauses
 pub mod Dimacs
 pub mod Formulas
 pub mod Resolution
+pub mod literal_marks

@@ -4,6 +4,10 @@
 //! formula and a derivation are plain data. The layers above use that `resolve` answers exactly the resolvent,
 //! what `Checks` says of a derivation, and the law that no assignment satisfies a formula over which one checks. Start
 //! at resolution.rt.
+//!
+//! It has these modules too:
+//!
+//! - [`literal_marks`]: Sets of literals, as tables with a mark for each literal that has a place.
 #![tactic(auto)]
 
 mod clause;
@@ -12,6 +16,7 @@ mod dimacs_text;
 mod formula;
 mod laws;
 mod literal;
+pub mod literal_marks;
 mod numbers;
 mod resolution;
 

@@ -19,7 +19,7 @@ use Rattle.goal_formula.specs.Exact.{IsExact}
 use Rattle.goal_formula.specs.declared.goal.GoalFormula.{GoalFormula}
 use Rattle.goals.specs.GoalForm.{GoalForm}
 use Rattle.goals.specs.declared.plan.Plan.{Plan}
-use Rattle.reached.specs.declared.bounds.Bounds.{Bounds}
+use Rattle.unwinder_reach.specs.declared.reached.bounds.Bounds.{Bounds}
 use Rattle.suite.specs.Made.{NoneHits}
 use Rattle.command_words.specs.Reading.{Text}
 use Rattle.command_words.specs.Request.{Asked, Checking, CheckingBounds}

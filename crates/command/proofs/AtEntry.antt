@@ -10,8 +10,8 @@ use Rattle.cnf.specs.declared.derivation.Derivation.{Derivation}
 use Rattle.cnf.specs.declared.formula.Formula.{Formula}
 use Rattle.goals.specs.GoalForm.{GoalForm}
 use Rattle.goals.specs.declared.plan.Plan.{Plan}
-use Rattle.reached.specs.declared.bounds.Bounds.{Bounds}
-use Rattle.typed_trees.specs.declared.unit.Typed.{Typed}
+use Rattle.unwinder_reach.specs.declared.reached.bounds.Bounds.{Bounds}
+use Rattle.c_typed_trees.specs.declared.unit.Typed.{Typed}
 use Rattle.command_words.specs.Request.{Checking, CheckingBounds, Generating, Measuring, Proving, Replaying, Running, Sufficing, Tracing}
 use Rattle.command.specs.declared.bounds.Form.{Form}
 use Rattle.command.specs.Bounds.{IsAskedOfBounds}

@@ -14,7 +14,7 @@ use Rattle.cnf.specs.declared.formula.Formula.{Formula}
 use Rattle.fq_core.specs.Refusals.{IfRefused}
 use Rattle.fq_core.specs.declared.refusal.Fault.{Fault}
 use Rattle.fq_core.specs.declared.refusal.Fault.TheVariants as fault
-use Rattle.reached.specs.declared.bounds.Bounds.{Bounds}
+use Rattle.unwinder_reach.specs.declared.reached.bounds.Bounds.{Bounds}
 use Rattle.report.specs.Made.{parameter_kinds}
 use Rattle.unwinder.specs.Unwinding.{IsUnwindFault}
 use Rattle.command.specs.Runs.{no_predicates}

@@ -7,10 +7,10 @@ use Rattle.fq_core.specs.declared.refusal.Refusal.{Refusal}
 use Rattle.cfa.specs.declared.parts.GraphParts.{GraphParts}
 use Rattle.cfa.specs.declared.state.Predicates.{Predicates}
 use Rattle.goals.specs.declared.plan.Plan.{Plan}
-use Rattle.typed_trees.specs.declared.unit.Typed.{Typed}
+use Rattle.c_typed_trees.specs.declared.unit.Typed.{Typed}
 use Rattle.command_words.specs.Reading.{Text}
-use Rattle.given.specs.declared.entry.Entry.{Entry}
-use Rattle.given.specs.declared.planned.Planned.{Planned}
+use Rattle.suite_problem.specs.declared.entry.Entry.{Entry}
+use Rattle.suite_problem.specs.declared.planned.Planned.{Planned}
 use Rattle.command.specs.Calls.{AreNotGiven, IsEntryAs, IsNoEntry, IsNotPlanned, IsPlannedAs}
 use Rattle.command.specs.Entries.{seen}
 use Rattle.command.specs.Reads.{Reads}

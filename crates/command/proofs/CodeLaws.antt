@@ -24,7 +24,7 @@ use Rattle.input_text.specs.Outcome.{Outcome, after, most_inputs, numbered, refu
 use Rattle.input_text.specs.declared.misfit.Misfit.{Misfit}
 use Rattle.input_text.specs.declared.misfit.Misfit.TheVariants as misfit
 use Rattle.predicates.specs.Outcome as predicates
-use Rattle.typing_faults.specs.Laws.{IsOneOf}
+use Rattle.c_types_laws.specs.typing_faults.Laws.{IsOneOf}
 use Rattle.trace_file.specs.Form.{Form, form_of}
 use Rattle.trace_file.specs.Reading.{IsRefusedAs, line_place, most_traces}
 use Rattle.trace_file.specs.Reading as reading

@@ -11,7 +11,7 @@ use Rattle.c_meaning.specs.declared.input.Input.{Input}
 use Rattle.c_meaning.specs.Starts.{CanStart}
 use Rattle.c_meaning.specs.declared.ends.Ends.{Ends}
 use Rattle.trace_file.specs.declared.trace.Trace.{Trace}
-use Rattle.typed_trees.specs.declared.unit.Typed.{Typed}
+use Rattle.c_typed_trees.specs.declared.unit.Typed.{Typed}
 use Rattle.command_words.specs.Reading.{Text}
 use Rattle.cfa.specs.declared.state.Predicates.{Predicates}
 use Rattle.cnf.specs.declared.derivation.Derivation.{Derivation}

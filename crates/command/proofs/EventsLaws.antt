@@ -9,13 +9,13 @@ use Rattle.c_meaning.specs.declared.input.Input.{Input}
 use Rattle.c_types.specs.Units.{typed_of}
 use Rattle.cfa.specs.declared.parts.Edge.{Edge}
 use Rattle.cfa.specs.declared.parts.GraphParts.{GraphParts}
-use Rattle.edge_events.specs.declared.event.Event.{Event}
-use Rattle.expression_events.specs.Follows.{edge_tells}
-use Rattle.path_events.proofs.Records.{unit_records_tell}
-use Rattle.path_events.specs.Laws.{Agrees, HappensBy, all_tell}
+use Rattle.tree_events.specs.declared.edge_events.event.Event.{Event}
+use Rattle.tree_events_laws.specs.expression_events.Follows.{edge_tells}
+use Rattle.measurer_laws.proofs.path_events.Records.{unit_records_tell}
+use Rattle.measurer_laws.specs.path_events.Laws.{Agrees, HappensBy, all_tell}
 use Rattle.path_runner.specs.Paths.{path_of}
 use Rattle.report.specs.EventsText.{told_along, told_at}
-use Rattle.typed_trees.specs.declared.unit.Typed.{Typed}
+use Rattle.c_typed_trees.specs.declared.unit.Typed.{Typed}
 use Rattle.command_words.specs.Reading.{Text}
 use Rattle.command.specs.Events.{AreEvents, IsEventful, IsOfTrees}
 use Rattle.command.specs.Runs.{EntryFunction, no_predicates, run_of}

@@ -16,13 +16,13 @@ use Rattle.fq_core.specs.declared.refusal.Fault.{Fault}
 use Rattle.fq_core.specs.declared.refusal.Fault.TheVariants as fault
 use Rattle.goals.specs.declared.plan.Plan.{Plan}
 use Rattle.input_text.specs.Laws.{HasWords}
-use Rattle.reached.specs.declared.bounds.Bounds.{Bounds}
+use Rattle.unwinder_reach.specs.declared.reached.bounds.Bounds.{Bounds}
 use Rattle.report.specs.Made.{parameter_kinds}
 use Rattle.suite.specs.Generated.{IsGenerateFault, IsGenerated, Shown, seen_also}
 use Rattle.suite.specs.Seeking.{AreOpenWhereShort, CannotGenerate, IsGenerationOf}
-use Rattle.given.specs.declared.generated.Generated.{Generated}
+use Rattle.suite_problem.specs.declared.generated.Generated.{Generated}
 use Rattle.command_words.specs.Reading.{Text}
-use Rattle.given.specs.declared.given.Given.{Given}
+use Rattle.suite_problem.specs.declared.given.Given.{Given}
 use Rattle.command.specs.declared.reply.Reply.TheVariants as reply
 use Rattle.command.specs.Parts.{IsMadeAs}
 use Rattle.command.specs.Generate.{IsGeneration, IsOpenWhereShort, is_open}

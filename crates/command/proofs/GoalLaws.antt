@@ -20,7 +20,7 @@ use Rattle.goals.specs.declared.plan.Plan.{Plan}
 use Rattle.input_text.specs.Laws.{HasWords}
 use Rattle.path_runner.specs.Paths.{record_of}
 use Rattle.path_runner.specs.declared.path.PathRecord.{PathRecord}
-use Rattle.reached.specs.declared.bounds.Bounds.{Bounds}
+use Rattle.unwinder_reach.specs.declared.reached.bounds.Bounds.{Bounds}
 use Rattle.report.specs.Generated.{proved_text}
 use Rattle.report.specs.Made.{parameter_kinds}
 use Rattle.suite.specs.Made.{IsMadeFor, NoneHits}

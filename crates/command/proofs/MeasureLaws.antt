@@ -20,7 +20,7 @@ use Rattle.goals.specs.declared.answer.Answer.{Answer}
 use Rattle.goals.specs.declared.answer.Answer.TheVariants as answer
 use Rattle.goals.specs.declared.plan.Plan.{Plan}
 use Rattle.measurer.specs.Firsts.{first_hit}
-use Rattle.hits.specs.Hits.{AreHits, path_in}
+use Rattle.measurer_hits.specs.hits.Hits.{AreHits, path_in}
 use Rattle.command.specs.Measure.{AreAllHits, answer_of, answers_of}
 use Rattle.command.specs.Runs.{ends_of, run_of, runs_of}
 

@@ -23,7 +23,7 @@ use Rattle.derivation_check.specs.declared.verdict.Verdict.TheVariants as verdic
 use Rattle.goals.specs.GoalForm.{GoalForm}
 use Rattle.goals.specs.declared.plan.Plan.{Plan}
 use Rattle.path_runner.specs.declared.path.PathRecord.{PathRecord}
-use Rattle.reached.specs.declared.bounds.Bounds.{Bounds}
+use Rattle.unwinder_reach.specs.declared.reached.bounds.Bounds.{Bounds}
 use Rattle.report.specs.Generated.{sample_text}
 use Rattle.report.specs.Suffice.{suffice_text}
 use Rattle.report.specs.Texts.{goals_text}
@@ -32,14 +32,14 @@ use Rattle.sample.specs.Sample.{query_text}
 use Rattle.suite.specs.Generated.{IsGenerateFault}
 use Rattle.suite.specs.declared.decided.Decided.{Decided}
 use Rattle.suite.specs.declared.decided.Decided.TheVariants as decided
-use Rattle.given.specs.declared.generated.Generated.{Generated}
+use Rattle.suite_problem.specs.declared.generated.Generated.{Generated}
 use Rattle.bounds_check.specs.declared.suffice.Suffice.{Suffice}
 use Rattle.bounds_check.specs.declared.suffice.Suffice.TheVariants as suffice
 use Rattle.least_input.specs.declared.least.Least.{Least}
 use Rattle.least_input.specs.declared.least.Least.TheVariants as least
 use Rattle.trace_file.specs.declared.trace.Trace.{Trace}
-use Rattle.typed_trees.specs.declared.unit.Typed.{Typed}
-use Rattle.typing_faults.specs.Laws.{IsOneOf}
+use Rattle.c_typed_trees.specs.declared.unit.Typed.{Typed}
+use Rattle.c_types_laws.specs.typing_faults.Laws.{IsOneOf}
 use Rattle.unwinder.specs.Unwinding.{IsUnwindFault}
 use Rattle.command_words.specs.Reading.{Text}
 use Rattle.command_words.specs.Request as asks

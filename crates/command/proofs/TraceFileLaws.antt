@@ -21,7 +21,7 @@ use Rattle.trace_file.specs.declared.line.Line.{Line}
 use Rattle.trace_file.specs.declared.trace.Trace.{Trace}
 use Rattle.trace_file.proofs.ReadLaws.{can_start}
 use Rattle.command.specs.Reads.{Reads, Sees}
-use Rattle.given.specs.declared.planned.Planned.{Planned}
+use Rattle.suite_problem.specs.declared.planned.Planned.{Planned}
 use Rattle.command.specs.Calls.{AreTracesAs}
 use Rattle.command.specs.TraceFile.{at_form, inputs_in, most_trace_bytes}
 use Rattle.command.proofs.ReadsLaws.{refused_map}

@@ -13,12 +13,12 @@ use Rattle.cfa.specs.declared.parts.GraphParts.{GraphParts}
 use Rattle.cfa.specs.declared.state.Predicates.{Predicates}
 use Rattle.goals.specs.declared.plan.Plan.{Plan}
 use Rattle.trace_file.specs.declared.trace.Trace.{Trace}
-use Rattle.typed_sources.specs.Trees.{IsTypedOf}
+use Rattle.c_front.specs.typed_sources.Trees.{IsTypedOf}
 use Rattle.command_words.specs.Reading.{Text}
 use Rattle.command.specs.declared.types.Automaton.{Automaton}
 use Rattle.command.specs.declared.types.Certificate.{Certificate}
-use Rattle.given.specs.declared.entry.Entry.{Entry}
-use Rattle.given.specs.declared.planned.Planned.{Planned}
+use Rattle.suite_problem.specs.declared.entry.Entry.{Entry}
+use Rattle.suite_problem.specs.declared.planned.Planned.{Planned}
 use Rattle.command.specs.declared.types.Trees.{Trees}
 use Rattle.command.specs.CertificateFile as certificates
 use Rattle.command.specs.CertificateFile.{AreCertificateOf}

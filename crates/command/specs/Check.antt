@@ -9,7 +9,7 @@ use Rattle.goal_formula.specs.declared.goal.GoalFormula.{GoalFormula}
 use Rattle.goals.specs.GoalForm.{GoalForm}
 use Rattle.goals.specs.declared.plan.Plan.{Plan}
 use Rattle.c_meaning.specs.declared.ends.Ends.{Ends}
-use Rattle.reached.specs.declared.bounds.Bounds.{Bounds}
+use Rattle.unwinder_reach.specs.declared.reached.bounds.Bounds.{Bounds}
 use Rattle.report.specs.Generated.{refuted_text}
 use Rattle.command_words.specs.Reading.{Text}
 use Rattle.command_words.specs.Request.{Checking}

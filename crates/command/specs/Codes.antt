@@ -5,7 +5,7 @@ use Rattle.c_front.specs.Codes.{text_codes}
 use Rattle.cfa.specs.declared.parts.Function.{Function}
 use Rattle.cfa.specs.declared.parts.GraphParts.{GraphParts}
 use Rattle.c_meaning.specs.declared.ends.Ends.{Ends}
-use Rattle.typing_faults.specs.Laws.{IsOneOf}
+use Rattle.c_types_laws.specs.typing_faults.Laws.{IsOneOf}
 use Rattle.command_words.specs.Reading.{Text}
 use Rattle.command.specs.declared.status.Status.{Status}
 use Rattle.command.specs.declared.status.Status.TheVariants as status

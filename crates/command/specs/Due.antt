@@ -3,7 +3,7 @@ use Rattle.std.specs.Prelude.{◌≡◌, List, MatchOption, length}
 use Rattle.cfa.specs.declared.parts.GraphParts.{GraphParts}
 use Rattle.report.specs.GraphText.{graph_text}
 use Rattle.report.specs.Texts.{goals_text}
-use Rattle.typed_trees.specs.declared.unit.Typed.{Typed}
+use Rattle.c_typed_trees.specs.declared.unit.Typed.{Typed}
 use Rattle.command_words.specs.Reading.{Text}
 use Rattle.command_words.specs.Request as asks
 use Rattle.command_words.specs.Request.{Asked, measure, generate, goals, runs, prove, check, suffice, sample, Measuring, Listing, Replaying, Running, Tracing, request_of}

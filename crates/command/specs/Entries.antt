@@ -3,7 +3,7 @@ use Rattle.std.specs.Prelude.{List}
 use Rattle.std.specs.List.{All}
 use Rattle.c_meaning.specs.Starts.{CanStart}
 use Rattle.c_meaning.specs.declared.input.Input.{Input}
-use Rattle.given.specs.declared.entry.Entry.{Entry}
+use Rattle.suite_problem.specs.declared.entry.Entry.{Entry}
 use Rattle.command.specs.Runs.{EntryFunction}
 
 abbrev pub seen : Entry → EntryFunction

@@ -3,12 +3,12 @@ use Rattle.std.specs.Prelude.{◌≡◌, ℕ, List, map}
 use Rattle.std.specs.List.{All}
 use Rattle.cfa.specs.declared.parts.GraphParts.{GraphParts}
 use Rattle.c_meaning.specs.declared.input.Input.{Input}
-use Rattle.edge_events.specs.declared.event.Event.{Event}
+use Rattle.tree_events.specs.declared.edge_events.event.Event.{Event}
 use Rattle.path_runner.specs.declared.path.PathRecord.{PathRecord}
 use Rattle.path_runner.specs.declared.path.RunEnd.{RunEnd}
-use Rattle.path_events.specs.Laws.{HappensBy}
+use Rattle.measurer_laws.specs.path_events.Laws.{HappensBy}
 use Rattle.report.specs.EventsText.{events_text, told_run}
-use Rattle.typed_trees.specs.declared.unit.Typed.{Typed}
+use Rattle.c_typed_trees.specs.declared.unit.Typed.{Typed}
 use Rattle.command.specs.RunList.{ending, unless_many}
 use Rattle.command.specs.Runs.{EntryFunction, no_predicates, run_of, runs_of}
 use Rattle.command.specs.Said.{Said}

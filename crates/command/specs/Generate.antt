@@ -11,13 +11,13 @@ use Rattle.goals.specs.GoalForm.{GoalForm}
 use Rattle.goals.specs.declared.answer.Answer.{Answer}
 use Rattle.goals.specs.declared.answer.Answer.TheVariants.{Undecided}
 use Rattle.goals.specs.declared.plan.Plan.{Plan}
-use Rattle.reached.specs.declared.bounds.Bounds.{Bounds}
+use Rattle.unwinder_reach.specs.declared.reached.bounds.Bounds.{Bounds}
 use Rattle.report.specs.Generated.{generated_text, is_undecided}
 use Rattle.report.specs.GeneratedJson.{generated_json}
 use Rattle.suite.specs.Generated.{IsGenerateFault, IsGenerated, Shown}
 use Rattle.suite.specs.Made.{FallsShort}
-use Rattle.reduction.specs.Suite.{kept_of}
-use Rattle.given.specs.declared.generated.Generated.{Generated}
+use Rattle.suite_reduction.specs.Suite.{kept_of}
+use Rattle.suite_problem.specs.declared.generated.Generated.{Generated}
 use Rattle.command_words.specs.Reading.{Text}
 use Rattle.command_words.specs.Request.{Generating}
 use Rattle.command.specs.Ranges.{within}

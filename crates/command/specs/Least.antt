@@ -8,7 +8,7 @@ use Rattle.goals.specs.declared.plan.Plan.{Plan}
 use Rattle.least_input.specs.Answers.{IsAnswered, IsOpenWhereShort}
 use Rattle.least_input.specs.declared.least.Least.{Least}
 use Rattle.least_input.specs.declared.least.Least.TheVariants.{Found, Refuted, Open}
-use Rattle.reached.specs.declared.bounds.Bounds.{Bounds}
+use Rattle.unwinder_reach.specs.declared.reached.bounds.Bounds.{Bounds}
 use Rattle.report.specs.Generated.{refuted_text}
 use Rattle.report.specs.Least.{least_text, open_text}
 use Rattle.command_words.specs.Reading.{Text}

@@ -35,3 +35,4 @@ pub mod TraceFile
 pub mod Traces
 pub mod Trees
 pub mod Watched
+pub mod fshell_core

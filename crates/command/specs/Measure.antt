@@ -13,9 +13,9 @@ use Rattle.path_runner.specs.declared.path.PathRecord.{PathRecord}
 use Rattle.goals.specs.declared.answer.Answer.{Answer}
 use Rattle.goals.specs.declared.answer.Answer.TheVariants as answer
 use Rattle.goals.specs.declared.plan.Plan.{Plan}
-use Rattle.hits.specs.Hits.{AreHits}
+use Rattle.measurer_hits.specs.hits.Hits.{AreHits}
 use Rattle.measurer.specs.Firsts.{first_hit}
-use Rattle.reduction.specs.Suite.{kept_of}
+use Rattle.suite_reduction.specs.Suite.{kept_of}
 use Rattle.report.specs.Json.{measured_json}
 use Rattle.report.specs.Texts.{measured_text}
 use Rattle.command.specs.Runs.{EntryFunction, ends_of, runs_of}

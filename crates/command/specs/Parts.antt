@@ -14,12 +14,12 @@ use Rattle.report.specs.Generated.{sample_text}
 use Rattle.report.specs.Made.{parameter_kinds}
 use Rattle.suite.specs.Generated.{IsGenerateFault, IsGenerated, Shown}
 use Rattle.suite.specs.declared.decided.Decided.{Decided}
-use Rattle.given.specs.declared.generated.Generated.{Generated}
+use Rattle.suite_problem.specs.declared.generated.Generated.{Generated}
 use Rattle.command_words.specs.Reading.{Text}
 use Rattle.command.specs.declared.types.Certificate.{Certificate}
-use Rattle.given.specs.declared.given.Given.{Given}
-use Rattle.given.specs.declared.goal.Goal.{Goal}
-use Rattle.given.specs.declared.planned.Planned.{Planned}
+use Rattle.suite_problem.specs.declared.given.Given.{Given}
+use Rattle.suite_problem.specs.declared.goal.Goal.{Goal}
+use Rattle.suite_problem.specs.declared.planned.Planned.{Planned}
 use Rattle.command.specs.Asked.{sample_file}
 use Rattle.command.specs.Check.{IsCheckedAt}
 use Rattle.command.specs.Entries.{seen}

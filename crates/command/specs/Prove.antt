@@ -7,9 +7,9 @@ use Rattle.c_meaning.specs.declared.ends.Ends.{Ends}
 use Rattle.certificate.specs.Certificates.{certificate_text}
 use Rattle.goals.specs.GoalForm.{GoalForm}
 use Rattle.goals.specs.declared.plan.Plan.{Plan}
-use Rattle.hits.specs.Hits.{Hits}
+use Rattle.measurer_hits.specs.hits.Hits.{Hits}
 use Rattle.path_runner.specs.Paths.{record_of}
-use Rattle.reached.specs.declared.bounds.Bounds.{Bounds}
+use Rattle.unwinder_reach.specs.declared.reached.bounds.Bounds.{Bounds}
 use Rattle.report.specs.Generated.{proved_text, undecided_text}
 use Rattle.suite.specs.Made.{IsDecided, IsMade, IsOpenWhereShort}
 use Rattle.suite.specs.declared.decided.Decided.{Decided}

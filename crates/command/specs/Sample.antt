@@ -3,7 +3,7 @@ use Rattle.std.specs.Prelude.{ℕ, [], ◌∷◌, codes}
 use Rattle.c_lex.specs.declared.token.SourceText.{SourceText}
 use Rattle.c_meaning.specs.declared.ends.Ends.TheVariants as counted
 use Rattle.cfa.specs.declared.parts.GraphParts.{GraphParts}
-use Rattle.reached.specs.declared.bounds.Bounds.{Bounds}
+use Rattle.unwinder_reach.specs.declared.reached.bounds.Bounds.{Bounds}
 use Rattle.report.specs.Generated.{sample_text}
 use Rattle.sample.specs.Sample.{program_text, query_text}
 use Rattle.command.specs.Asked.{sample_file}

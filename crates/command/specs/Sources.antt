@@ -6,8 +6,8 @@ use Rattle.fq_core.specs.declared.refusal.Refusal.{Refusal}
 use Rattle.c_lex.specs.declared.token.SourceText.{SourceText}
 use Rattle.cfa.specs.declared.parts.GraphParts.{GraphParts}
 use Rattle.c_front.specs.Automata.{IsAutomatonOf, IsRefused}
-use Rattle.typed_sources.specs.Trees.{IsTypedOf}
-use Rattle.typed_trees.specs.declared.unit.Typed.{Typed}
+use Rattle.c_front.specs.typed_sources.Trees.{IsTypedOf}
+use Rattle.c_typed_trees.specs.declared.unit.Typed.{Typed}
 use Rattle.command.specs.Reads.{HasFailedAt, IsPast, Reads, Sees}
 
 -- ---- one file

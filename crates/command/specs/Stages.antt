@@ -15,7 +15,7 @@ use Rattle.cnf.specs.declared.formula.Formula.{Formula}
 use Rattle.goals.specs.GoalForm.{GoalForm}
 use Rattle.goals.specs.declared.plan.Plan.{Plan}
 use Rattle.trace_file.specs.declared.trace.Trace.{Trace}
-use Rattle.typed_trees.specs.declared.unit.Typed.{Typed}
+use Rattle.c_typed_trees.specs.declared.unit.Typed.{Typed}
 use Rattle.command_words.specs.Reading.{Text}
 use Rattle.command.specs.CertificateFile.{AreCertificateOf}
 use Rattle.command.specs.CertificateFile as certificates

@@ -8,7 +8,7 @@ use Rattle.report.specs.Texts.{inputs_text}
 use Rattle.tree_meaning.specs.Ends.{tree_end}
 use Rattle.tree_meaning.specs.declared.ends.TreeEnd.{TreeEnd}
 use Rattle.tree_meaning.specs.declared.ends.TreeEnd.TheVariants as tree
-use Rattle.typed_trees.specs.declared.unit.Typed.{Typed}
+use Rattle.c_typed_trees.specs.declared.unit.Typed.{Typed}
 use Rattle.command.specs.Runs.{EntryFunction}
 use Rattle.command.specs.Said.{Said, answered}
 

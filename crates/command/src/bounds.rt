@@ -20,11 +20,11 @@ use cnf::{Derivation, Formula};
 use command_words::Suffice as Asked;
 use fq_core::{Fault, Memory};
 use fq_io::Files;
-use given::Entry;
-use reached::Bounds;
 use report::{left_text, open_bounds_text, suffice_text};
 use search::Watch;
 use std::alloc::Global;
+use suite_problem::Entry;
+use unwinder_reach::reached::Bounds;
 
 /// What is written where bounds suffice.
 #[derive(Clone, Copy)]

@@ -22,10 +22,10 @@ use crate::types::Certificate;
 use command_words::Check;
 use fq_core::Fault;
 use fq_io::Files;
-use given::{Given, Goal};
 use goal_formula::formula;
 use report::refuted_text;
 use std::alloc::Global;
+use suite_problem::{Given, Goal};
 use unwinder::unwind;
 
 // Makes the formula of a goal anew, and checks the certificate.

@@ -4,7 +4,7 @@ ghost use Rattle.command.specs.Calls.{IsEntryAs};
 use crate::refusal::nowhere;
 use crate::types::Automaton;
 use fq_core::Fault;
-use given::Entry;
+use suite_problem::Entry;
 
 /// The function of this name, where a run can begin at it.
 pub fn entry_named<'a>(automaton: &'a Automaton, name: &str) -> Result<Entry<'a>, Fault>

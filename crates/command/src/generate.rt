@@ -17,13 +17,13 @@ use crate::sources::automaton;
 use command_words::Generate;
 use fq_core::{Fault, Memory};
 use fq_io::Files;
-use given::{Generated, Given};
 use goals::Answer;
-use reached::Bounds;
 use report::{generated_json, generated_text};
 use search::Watch;
 use std::alloc::Global;
 use suite::reduce;
+use suite_problem::{Generated, Given};
+use unwinder_reach::reached::Bounds;
 
 /// The bounds that the words give.
 pub fn within(bounds: command_words::Bounds) -> Bounds

@@ -9,9 +9,9 @@ use crate::sources::read;
 use c_meaning::Input;
 use fq_core::{Fault, Memory};
 use fq_io::Files;
-use given::Entry;
 use input_text::inputs;
 use std::alloc::Global;
+use suite_problem::Entry;
 
 const MOST_INPUT_BYTES: u64 = 16_777_216;
 

@@ -21,14 +21,14 @@ use crate::sources::automaton;
 use command_words::Prove;
 use fq_core::{Fault, Memory};
 use fq_io::Files;
-use given::{Given, Goal};
 use least_input::{Least, find_least};
 use path_runner::Ends;
-use reached::Bounds;
 use report::{least_text, open_text, refuted_text};
 use search::Watch;
 use std::alloc::Global;
 use suite::Sought;
+use suite_problem::{Given, Goal};
+use unwinder_reach::reached::Bounds;
 
 // What is said of what is found of a goal. The watch is shown the search of one that stays open.
 fn said_of<W: Watch>(

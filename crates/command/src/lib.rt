@@ -17,7 +17,11 @@
 //! `measurer`, made inputs and reduced suites `suite`, over `unwinder`, `goal_formula` and `search`, certificates `certificate`
 //! and `derivation_check`, the program of `sample` `sample`, the printed texts `report`. Each command has a module by its word
 //! (`samples` and `goal_list` for `sample` and `goals`, whose words are crates), with one call that answers what is due. What
-//! a stage gives keeps what holds of it on its type (types.rt, `given`). Start at [`run`] in command.rt.
+//! a stage gives keeps what holds of it on its type (types.rt, `suite_problem`). Start at [`run`] in command.rt.
+//!
+//! It has these modules too:
+//!
+//! - [`fshell_core`]: The program, but for the system.
 #![tactic(auto)]
 
 mod bounds;
@@ -29,6 +33,7 @@ mod comparison;
 mod difference;
 mod entry;
 mod events;
+pub mod fshell_core;
 mod generate;
 mod goal_list;
 mod graph;

@@ -22,13 +22,13 @@ use cfa::Predicates;
 use command_words::Measure;
 use fq_core::{Fault, Memory};
 use fq_io::Files;
-use given::{Entry, Planned};
 use goals::Answer;
 use measurer::Measurer;
 use path_runner::{Ends, PathRecord, RunEnd, trace_run};
-use reduction::reduce;
 use report::{measured_json, measured_text};
 use std::alloc::Global;
+use suite_problem::{Entry, Planned};
+use suite_reduction::reduce;
 
 /// The path of an input's run, up to its end or so many edges.
 pub fn run_of(

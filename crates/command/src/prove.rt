@@ -23,11 +23,11 @@ use certificate::write_certificate;
 use command_words::Prove;
 use fq_core::{Fault, Memory};
 use fq_io::Files;
-use given::{Given, Goal};
 use report::{proved_text, undecided_text};
 use search::Watch;
 use std::alloc::Global;
 use suite::{Decided, Sought, decide, replay};
+use suite_problem::{Given, Goal};
 
 // The line of a goal that an input covers.
 fn covered(alloc: Global, sought: &Sought, input: &Input) -> Result<Vec<u8>, Memory>

@@ -12,10 +12,10 @@ use crate::types::Automaton;
 use cfa::{Graph, Predicates};
 use fq_core::Fault;
 use fql_read::{Query, read_query};
-use given::Planned;
 use goals::{Plan, plan_of};
 use predicates::resolve;
 use std::alloc::Global;
+use suite_problem::Planned;
 
 // The predicates and the goals of a query.
 fn plan_asked(alloc: Global, graph: &Graph, query: &Query) -> Result<(Predicates, Plan), Fault>

@@ -16,9 +16,9 @@ use c_meaning::Input;
 use command_words::Replay;
 use fq_core::{Fault, Memory};
 use fq_io::Files;
-use given::Planned;
 use path_runner::Ends;
 use std::alloc::Global;
+use suite_problem::Planned;
 use trace_file::{Trace, read_trace};
 
 const MOST_TRACE_BYTES: u64 = 16_777_216;

@@ -21,12 +21,12 @@ use c_meaning::Ends;
 use cfa::Graph;
 use containers::Vector;
 use fq_core::{Fault, Name};
-use given::Given;
-use reached::Bounds;
 use report::sample_text;
 use sample::{program, sample_query};
 use search::Watch;
 use std::alloc::Global;
+use suite_problem::Given;
+use unwinder_reach::reached::Bounds;
 
 /// The bounds where no option is given.
 const BOUNDS: Bounds = Bounds {

@@ -11,12 +11,12 @@ ghost use Rattle.command.specs.Sources.{AreRead, IsRead, IsReadUpTo, IsUnread, m
 
 use crate::types::{Automaton, Trees};
 use c_front::automaton_of_texts;
+use c_front::typed_sources::lowered_of_texts;
 use c_lex::SourceText;
 use containers::Vector;
 use fq_core::{Fault, Name, Place, Refusal};
 use fq_io::{FileFault, Files};
 use std::alloc::Global;
-use typed_sources::lowered_of_texts;
 
 const MOST_SOURCE_BYTES: u64 = 4_194_304;
 

@@ -25,9 +25,9 @@ use command_words::Traces;
 use containers::Vector;
 use fq_core::Fault;
 use fq_io::Files;
-use given::Entry;
 use path_runner::Ends;
 use std::alloc::{AllocError, Global};
+use suite_problem::Entry;
 use trace_file::{Trace, trace_text};
 
 // Adds a trace whose run is counted.

@@ -1,14 +1,14 @@
-// What a command is given besides what inputs are searched for (`given`). What holds of it stands on its type.
+// What a command is given besides what inputs are searched for (`suite_problem`). What holds of it stands on its type.
 ghost use Rattle.std.specs.Prelude.{◌+◌, ◌<◌, ◌^◌, length};
 ghost use Rattle.std.proofs.Props.{props};
 ghost use Rattle.cfa.specs.Contexts.{IsOnce};
 ghost use Rattle.command.specs.Entries.{AllCanStart};
 
 use c_meaning::Input;
+use c_typed_trees::Typed;
 use cfa::Graph;
 use cnf::{Derivation, Formula};
-use given::Entry;
-use typed_trees::Typed;
+use suite_problem::Entry;
 
 /// The automaton of sources. No walk over it comes twice to one pair of node and context.
 #[derive(Drop)]

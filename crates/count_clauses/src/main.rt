@@ -20,12 +20,12 @@ use fql_read::{Query, read_query};
 use goal_formula::formula;
 use goals::{Plan, plan_of};
 use predicates::resolve;
-use reached::Bounds;
 use std::alloc::Global;
 use std::process::ExitCode;
 use std::{env, io};
 use test_unwindings::{entry_of, unwound_of};
 use unwinder::Unwound;
+use unwinder_reach::reached::Bounds;
 
 const MOST_BYTES: u64 = 4 * 1024 * 1024;
 

@@ -12,11 +12,11 @@ use cfa::{Graph, Predicates};
 use containers::Vector;
 use fq_core::{Fault, Name};
 use fq_io::{Files, RealFiles};
-use reached::Bounds;
 use std::alloc::Global;
 use std::process::ExitCode;
 use std::{env, io};
 use unwinder::unwind;
+use unwinder_reach::reached::Bounds;
 
 const MOST_BYTES: u64 = 4 * 1024 * 1024;
 

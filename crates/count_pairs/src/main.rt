@@ -9,11 +9,11 @@ use cfa::Predicates;
 use containers::Vector;
 use fq_core::{Fault, Name};
 use fq_io::{Files, RealFiles};
-use reached::{Bounds, Reached, reached};
 use std::alloc::Global;
 use std::process::ExitCode;
 use std::{env, io};
-use unwinding_size::size_of_unwinding;
+use unwinder_reach::reached::{Bounds, Reached, reached};
+use unwinder_reach::unwinding_size::size_of_unwinding;
 
 const MOST_BYTES: u64 = 4 * 1024 * 1024;
 

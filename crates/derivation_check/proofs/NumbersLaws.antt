@@ -12,9 +12,9 @@ use Rattle.cnf.specs.declared.derivation.DerivationLine.{DerivationLine}
 use Rattle.cnf.specs.Checks.{numbered, clauses_before}
 use Rattle.cnf.specs.Clauses.{literal_key, RisesFrom}
 use Rattle.cnf.proofs.ChecksLaws.{all_at}
-use Rattle.literal_marks.specs.declared.places.Places.{Places}
-use Rattle.literal_marks.specs.declared.places.Places.TheVariants.{ByKey}
-use Rattle.literal_marks.specs.Marks.{has_places}
+use Rattle.cnf.specs.declared.literal_marks.places.Places.{Places}
+use Rattle.cnf.specs.declared.literal_marks.places.Places.TheVariants.{ByKey}
+use Rattle.cnf.specs.literal_marks.Marks.{has_places}
 use Rattle.derivation_check.specs.Marks.{HasPlaces}
 
 -- ---- lists

@@ -11,9 +11,9 @@ use Rattle.cnf.specs.declared.derivation.Derivation.{Derivation}
 use Rattle.cnf.specs.declared.derivation.DerivationLine.{DerivationLine}
 use Rattle.cnf.specs.declared.formula.Formula.{Formula}
 use Rattle.cnf.specs.Clauses.{has_literal}
-use Rattle.literal_marks.specs.declared.places.Places.TheVariants.{Listed}
-use Rattle.literal_marks.specs.Marks.{has_place, has_places}
-use Rattle.literal_marks.proofs.PlacesLaws.{place_below}
+use Rattle.cnf.specs.declared.literal_marks.places.Places.TheVariants.{Listed}
+use Rattle.cnf.specs.literal_marks.Marks.{has_place, has_places}
+use Rattle.cnf.proofs.literal_marks.PlacesLaws.{place_below}
 use Rattle.derivation_check.specs.Marks.{HasPlaces}
 use Rattle.derivation_check.proofs.LineLaws.{all_from, or_right}
 

@@ -6,8 +6,8 @@ use Rattle.cnf.specs.declared.formula.Formula.{Formula}
 use Rattle.cnf.specs.declared.derivation.Derivation.{Derivation}
 use Rattle.cnf.specs.declared.derivation.DerivationLine.{DerivationLine}
 use Rattle.cnf.specs.Checks.{numbered}
-use Rattle.literal_marks.specs.declared.places.Places.{Places}
-use Rattle.literal_marks.specs.Marks.{has_places}
+use Rattle.cnf.specs.declared.literal_marks.places.Places.{Places}
+use Rattle.cnf.specs.literal_marks.Marks.{has_places}
 
 -- each literal of the formula and of the derivation has a place in a table of this size
 pub record HasPlaces (places : Places) (size : ℕ) (formula : Formula) (derivation : Derivation) : Type 0 where

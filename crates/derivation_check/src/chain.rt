@@ -1,11 +1,11 @@
 // A line's chain of resolutions, on marks.
 ghost use Rattle.std.specs.Prelude.{◌≡◌, ◌∷◌, ℕ, ℤ, List, Some, None, if◌then◌else◌, length};
 ghost use Rattle.cnf.specs.Checks.{chain_of, clauses_before, resolved};
-ghost use Rattle.literal_marks.specs.Marks.{IsClear, marked};
+ghost use Rattle.cnf.specs.literal_marks.Marks.{IsClear, marked};
 ghost use Rattle.derivation_check.specs.Marks.{HasPlaces};
 
+use cnf::literal_marks::{Places, mark_all, resolve_marked};
 use cnf::{Derivation, DerivationLine, Formula, clause_before};
-use literal_marks::{Places, mark_all, resolve_marked};
 
 /// Marks the clause that a line's chain gives. False where the chain doesn't exist.
 pub(crate) fn mark_chain(

@@ -7,9 +7,9 @@ ghost use Rattle.derivation_check.specs.Verdicts.{IsVerdict};
 use crate::line::is_right;
 use crate::table::places_for;
 use crate::verdict::Verdict;
+use cnf::literal_marks::{Places, clear};
 use cnf::{Derivation, Formula};
 use fq_core::Memory;
-use literal_marks::{Places, clear};
 use std::alloc::Global;
 use std::marker::Model;
 

@@ -3,12 +3,12 @@ ghost use Rattle.std.specs.Prelude.{◌≡◌, ◌↔◌, IsTrue, length};
 ghost use Rattle.std.specs.Bool.{OnTrue};
 ghost use Rattle.std.specs.List.{list_all};
 ghost use Rattle.cnf.specs.Checks.{IsRight, clauses_before};
-ghost use Rattle.literal_marks.specs.Marks.{IsClear, marked};
+ghost use Rattle.cnf.specs.literal_marks.Marks.{IsClear, marked};
 ghost use Rattle.derivation_check.specs.Marks.{HasPlaces, is_clear_chain, is_clear_of};
 
 use crate::chain::mark_chain;
+use cnf::literal_marks::{Places, all_marked, any_marked, unmark_all};
 use cnf::{Derivation, DerivationLine, Formula, clause_before};
-use literal_marks::{Places, all_marked, any_marked, unmark_all};
 
 /// Whether a line is right over the formula and the first `before` lines. Then no mark is left.
 pub(crate) fn is_right(

@@ -3,7 +3,7 @@ ghost use Rattle.std.specs.Prelude.{◌++◌, ◌≡◌, All, IfOk, OnOk, length
 ghost use Rattle.std.specs.List.{flat_map};
 ghost use Rattle.cnf.specs.Clauses.{IsLiteral};
 ghost use Rattle.derivation_check.specs.Marks.{HasPlaces};
-ghost use Rattle.literal_marks.specs.declared.places.Places.TheVariants.{Listed};
+ghost use Rattle.cnf.specs.declared.literal_marks.places.Places.TheVariants.{Listed};
 
 use cnf::{Clause, Derivation, DerivationLine, Formula};
 use fq_core::Memory;

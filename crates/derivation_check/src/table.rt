@@ -1,14 +1,14 @@
 // Which places a table of marks has, and how large it has to be.
 ghost use Rattle.std.specs.Prelude.{◌≡◌, true, IfOk, IsTrue};
 ghost use Rattle.std.specs.List.{list_all};
-ghost use Rattle.literal_marks.specs.Marks.{has_places};
+ghost use Rattle.cnf.specs.literal_marks.Marks.{has_places};
 ghost use Rattle.derivation_check.specs.Marks.{HasPlaces};
-ghost use Rattle.literal_marks.specs.declared.places.Places.TheVariants.{ByKey};
+ghost use Rattle.cnf.specs.declared.literal_marks.places.Places.TheVariants.{ByKey};
 
 use crate::listing::all_literals;
+use cnf::literal_marks::Places;
 use cnf::{Clause, Derivation, DerivationLine, Formula, literal_key};
 use fq_core::Memory;
-use literal_marks::Places;
 use std::alloc::Global;
 
 /// A table by keys may have so many places for each literal that occurs.

@@ -2,11 +2,11 @@
 #![tactic(auto)]
 
 use command::Status;
+use command::fshell_core::{answer, read_named};
 use fq_io::{RealFiles, RealSink};
-use fshell_core::{answer, read_named};
+use fq_io_recorded::ToldSink;
 use std::process::ExitCode;
 use std::{env, io};
-use told_io::ToldSink;
 
 // The words after the program's name, or none where one of them isn't UTF-8, so that they are no command.
 fn words(rt: &HostRuntime) -> Result<Vec<String>, io::Error> {

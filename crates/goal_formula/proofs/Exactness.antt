@@ -10,8 +10,8 @@ use Rattle.circuit.specs.Truth.{World}
 use Rattle.circuit.specs.declared.lit.Gate.{Gate}
 use Rattle.goals.specs.GoalForm.{GoalForm}
 use Rattle.goals.specs.declared.plan.Plan.{Plan}
-use Rattle.input_words.proofs.WorldLemmas.{length-world_of}
-use Rattle.input_words.specs.Worlds.{world_of}
+use Rattle.unwinder.proofs.input_words.WorldLemmas.{length-world_of}
+use Rattle.unwinder.specs.input_words.Worlds.{world_of}
 use Rattle.patterns.specs.Letters.{form}
 use Rattle.unwinder.proofs.Made.{parameter_kinds}
 use Rattle.unwinder.specs.Unwinding.{IsUnwound}

@@ -8,8 +8,8 @@ use Rattle.c_meaning.specs.Starts.{fitted}
 use Rattle.c_values.specs.Kind.{IsKind}
 use Rattle.c_values.specs.declared.kinds.Kind.{Kind}
 use Rattle.cfa.specs.declared.parts.Function.{Function}
-use Rattle.input_words.proofs.WorldLemmas.{answer_bits-cons, argument_bits-cons, low_bits-fitted, low_bits-number_from, number_from}
-use Rattle.input_words.specs.Worlds.{answer_bits, argument_bits, low_bits, world_of}
+use Rattle.unwinder.proofs.input_words.WorldLemmas.{answer_bits-cons, argument_bits-cons, low_bits-fitted, low_bits-number_from, number_from}
+use Rattle.unwinder.specs.input_words.Worlds.{answer_bits, argument_bits, low_bits, world_of}
 use Rattle.path_runner.proofs.Bits.{bits_few}
 use Rattle.path_runner.specs.Masks.{number_of_bits}
 use Rattle.unwinder.specs.Lists.{IsInputFor}

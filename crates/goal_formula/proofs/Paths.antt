@@ -7,7 +7,7 @@ use Rattle.patterns.specs.declared.letter.Letter.{Letter}
 use Rattle.patterns.specs.declared.path_view.PathView.{PathView}
 use Rattle.automata.specs.Reach.{MayBegin, MayEnd}
 use Rattle.automata.specs.Standing.{HasMatch, step_at}
-use Rattle.run_match.proofs.Matches.{forward}
+use Rattle.measurer_hits.proofs.run_match.Matches.{forward}
 
 -- they tell the same of the states up to one, and of the edges between them
 pub record AreSame {L : Type 0} (n : ℕ) (p q : ℕ → Step L) : Type 0 where

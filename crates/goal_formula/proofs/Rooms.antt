@@ -16,8 +16,8 @@ use Rattle.patterns.specs.declared.letter.Letter.{Letter}
 use Rattle.unwinder.proofs.Made.{few_inputs}
 use Rattle.unwinder.specs.Unwinding.{IsUnwound}
 use Rattle.unwinder.specs.declared.unwound.Unwound.{Unwound}
-use Rattle.input_words.specs.Worlds.{world_length}
-use Rattle.unwinding_size.specs.Sizes.{size_sum}
+use Rattle.unwinder.specs.input_words.Worlds.{world_length}
+use Rattle.unwinder_reach.specs.unwinding_size.Sizes.{size_sum}
 use Rattle.goal_formula.specs.Laws.{UnwindingsLeaveRoom, VariablesAreFew}
 use Rattle.goal_formula.specs.Parts.{CanSay, SaysHit, most_hit_gates, most_match_gates}
 use Rattle.goal_formula.specs.declared.goal.GoalFormula.{GoalFormula}

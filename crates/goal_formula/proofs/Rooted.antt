@@ -15,7 +15,7 @@ use Rattle.clause_form.specs.Cone.{IsInCone}
 use Rattle.clause_form.specs.Encoding.{cone_clauses, is_over, variable_of}
 use Rattle.clause_form.specs.Worlds.{AgreesOnInputs, AgreesOnWires, assignment_of, world_of}
 use Rattle.cnf.specs.Formulas.{Satisfies}
-use Rattle.input_words.specs.Worlds.{total_width, world_length}
+use Rattle.unwinder.specs.input_words.Worlds.{total_width, world_length}
 use Rattle.goal_formula.specs.Bits.{Gives, IsShaped, input_variables}
 use Rattle.goal_formula.specs.Forms.{IsConeForm, IsFormulaOf}
 use Rattle.goal_formula.specs.Parts.{AreInputVariables}

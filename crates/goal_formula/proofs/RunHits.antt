@@ -20,17 +20,17 @@ use Rattle.automata.specs.Standing.{HasMatch}
 use Rattle.goals.specs.GoalForm.{GoalForm}
 use Rattle.goals.specs.declared.plan.PassingPattern.{PassingPattern}
 use Rattle.goals.specs.declared.plan.Plan.{Plan}
-use Rattle.hits.specs.Hits as hits
-use Rattle.hits.specs.Hits.{Hits, path_in}
-use Rattle.hits.specs.Inputs.{InputHitsWithin}
-use Rattle.input_words.specs.Worlds.{world_of}
+use Rattle.measurer_hits.specs.hits.Hits as hits
+use Rattle.measurer_hits.specs.hits.Hits.{Hits, path_in}
+use Rattle.measurer_hits.specs.hits.Inputs.{InputHitsWithin}
+use Rattle.unwinder.specs.input_words.Worlds.{world_of}
 use Rattle.path_runner.proofs.Records.{ends_counted}
 use Rattle.path_runner.specs.Paths.{record_of}
 use Rattle.patterns.specs.Letters.{form}
 use Rattle.patterns.specs.Match.{Form, Step}
 use Rattle.patterns.specs.Segments.{HasSegment}
 use Rattle.patterns.specs.declared.letter.Letter.{Letter}
-use Rattle.reached.specs.declared.bounds.Bounds.{Bounds}
+use Rattle.unwinder_reach.specs.declared.reached.bounds.Bounds.{Bounds}
 use Rattle.unwinder.specs.Lists.{IsInputFor, ListsRuns, Tells, entries_in, reached_in}
 use Rattle.unwinder.specs.declared.unwound.Entry.{Entry}
 use Rattle.unwinder.specs.Unwinding.{StartsFirst}

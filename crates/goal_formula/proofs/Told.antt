@@ -19,7 +19,7 @@ use Rattle.circuit.specs.Truth.{World}
 use Rattle.circuit.specs.Wires.{lit_holds}
 use Rattle.circuit.specs.declared.lit.Gate.{Gate}
 use Rattle.circuit.specs.declared.lit.Lit.{Lit}
-use Rattle.hits.specs.Hits.{path_in}
+use Rattle.measurer_hits.specs.hits.Hits.{path_in}
 use Rattle.path_runner.specs.Masks.{holds, mask_at, mask_of, number_of_bits}
 use Rattle.path_runner.specs.Paths.{record_of}
 use Rattle.patterns.specs.Match.{Step}

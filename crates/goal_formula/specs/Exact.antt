@@ -13,11 +13,11 @@ use Rattle.clause_form.specs.Encoding.{is_over}
 use Rattle.cnf.specs.Formulas.{Satisfies}
 use Rattle.goals.specs.GoalForm.{GoalForm}
 use Rattle.goals.specs.declared.plan.Plan.{Plan}
-use Rattle.hits.specs.Inputs.{InputHitsWithin}
-use Rattle.input_words.specs.Worlds.{world_of}
-use Rattle.reached.specs.Reaching.{AreReached}
-use Rattle.reached.specs.declared.bounds.Bounds.{Bounds}
-use Rattle.reached.specs.declared.step.Step.{Step}
+use Rattle.measurer_hits.specs.hits.Inputs.{InputHitsWithin}
+use Rattle.unwinder.specs.input_words.Worlds.{world_of}
+use Rattle.unwinder_reach.specs.reached.Reaching.{AreReached}
+use Rattle.unwinder_reach.specs.declared.reached.bounds.Bounds.{Bounds}
+use Rattle.unwinder_reach.specs.declared.reached.step.Step.{Step}
 use Rattle.unwinder.specs.Lists.{IsInputFor}
 use Rattle.unwinder.specs.Unwinding.{most_wires}
 use Rattle.goal_formula.specs.Bits.{AreInputsApart, AreInputsOver, Gives, IsShaped, input_from, input_variables}

@@ -10,7 +10,7 @@ use Rattle.circuit.specs.declared.lit.Lit.{Lit}
 use Rattle.clause_form.specs.Cone.{IsInCone, gate_on}
 use Rattle.clause_form.specs.Encoding.{cone_clauses, is_over, variable_of, wire_clauses}
 use Rattle.cnf.specs.Formulas.{Satisfies, is_true_clause}
-use Rattle.input_words.specs.Worlds.{world_length}
+use Rattle.unwinder.specs.input_words.Worlds.{world_length}
 use Rattle.goal_formula.specs.Bits.{AgreeOnInputs, AreInputsApart, AreInputsOver, Gives, IsShaped, input_variables}
 use Rattle.goal_formula.specs.declared.goal.GoalFormula.{GoalFormula}
 

@@ -13,7 +13,7 @@ use Rattle.circuit.specs.declared.lit.Lit.{Lit}
 use Rattle.clause_form.specs.Parts.{IsGateAt}
 use Rattle.goals.specs.declared.plan.PassingPattern.{PassingPattern}
 use Rattle.goals.specs.declared.plan.Plan.{Plan}
-use Rattle.input_words.specs.Worlds.{world_length}
+use Rattle.unwinder.specs.input_words.Worlds.{world_length}
 use Rattle.patterns.specs.Match.{Form}
 use Rattle.patterns.specs.declared.letter.Letter.{Letter}
 use Rattle.unwinder.specs.declared.unwound.Entry.{Entry}

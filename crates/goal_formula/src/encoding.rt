@@ -3,7 +3,7 @@ ghost use Rattle.std.specs.Prelude.{◌≡◌, ◌+◌, ◌*◌, ◌≤◌, ◌^
 ghost use Rattle.std.specs.List.{flat_map};
 ghost use Rattle.c_values.specs.declared.kinds.Kind.{Kind as OneKind};
 ghost use Rattle.circuit.specs.Wires.{IsWire, input_count};
-ghost use Rattle.input_words.specs.Worlds.{total_width, world_length};
+ghost use Rattle.unwinder.specs.input_words.Worlds.{total_width, world_length};
 ghost use Rattle.goal_formula.specs.Forms.{IsFormulaOf};
 ghost use Rattle.goal_formula.specs.Parts.{AreInputVariables};
 

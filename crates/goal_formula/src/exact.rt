@@ -8,7 +8,7 @@ ghost use Rattle.cfa.specs.declared.parts.Function.{Function as OneFunction};
 ghost use Rattle.circuit.specs.Wires.{input_count};
 ghost use Rattle.circuit.specs.declared.lit.Gate.{Gate as OneGate};
 ghost use Rattle.goals.specs.GoalForm.{GoalForm};
-ghost use Rattle.input_words.specs.Worlds.{world_length};
+ghost use Rattle.unwinder.specs.input_words.Worlds.{world_length};
 ghost use Rattle.patterns.specs.Letters.{form};
 ghost use Rattle.unwinder.specs.Unwinding.{IsUnwound};
 ghost use Rattle.goal_formula.specs.Exact.{IsExact};

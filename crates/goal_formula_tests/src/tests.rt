@@ -15,12 +15,12 @@ use fql_read::{Query, read_query};
 use goal_formula::{GoalFormula, formula, input_of, is_goal_too_large, literal_formula};
 use goals::{Plan, plan_of};
 use predicates::resolve;
-use reached::Bounds;
 use std::alloc::Global;
 use std::test::Fail;
 use test_programs::{graph_of, texts_of};
 use test_unwindings::{entry_of, unwound_of};
 use unwinder::Unwound;
+use unwinder_reach::reached::Bounds;
 
 // A program, a query, the number of a goal, how runs are bounded, which ends count, and how many values of one byte, as the
 // argument or as the first answer, satisfy the goal's formula.

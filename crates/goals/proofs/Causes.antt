@@ -3,10 +3,10 @@ use Rattle.std.proofs.Common.{◌≡◌, ◌||◌, Bool, true, false, if◌then�
 use Rattle.std.specs.Prelude.{nat_lt, Option, Some, None, option_map, option_and_then}
 use Rattle.std.specs.List.{list_any}
 use Rattle.std.specs.Option.{option_map_or}
-use Rattle.applied_clauses.specs.Trees.{Tree}
+use Rattle.goals.specs.applied_clauses.Trees.{Tree}
 use Rattle.fq_core.specs.declared.refusal.Place.TheVariants as place
-use Rattle.applied_clauses.specs.Limits.{passed_limit}
-use Rattle.applied_clauses.specs.Outcome.{too_many}
+use Rattle.goals.specs.applied_clauses.Limits.{passed_limit}
+use Rattle.goals.specs.applied_clauses.Outcome.{too_many}
 use Rattle.goals.specs.CountedCauses.{counted_causes, is_long_tree}
 use Rattle.goals.specs.Counts.{longest}
 use Rattle.goals.specs.Forms.{pattern_of, quote_patterns}

@@ -5,7 +5,7 @@ use Rattle.std.proofs.lemmas.List.Folds.{list_any_at}
 use Rattle.std.proofs.lemmas.List.Quantifiers.{all_pairs_push}
 use Rattle.indexmap.specs.IndexSet.{insert_key, insert_all}
 use Rattle.indexmap.proofs.CallerLemmas.{Contains-list_any}
-use Rattle.applied_clauses.specs.Trees.{Tree}
+use Rattle.goals.specs.applied_clauses.Trees.{Tree}
 use Rattle.goals.specs.GoalForm.{GoalForm}
 use Rattle.goals.specs.Forms.{Pattern, quote_patterns, word_pattern}
 use Rattle.goals.specs.Plans.{goals_of, goals_with}

@@ -1,8 +1,8 @@
 -- The number of words of a product in memory.
 use Rattle.std.proofs.Common.{rules, ◌≡◌, ℕ, ◌*◌, ap, ◌∙◌}
-use Rattle.applied_clauses.specs.Trees.{tree_of, dot}
-use Rattle.applied_clauses.specs.declared.applied_tree.AppliedTree.{AppliedTree, the_lemmas}
-use Rattle.applied_clauses.specs.declared.applied_tree.AppliedTree.TheVariants.{Dot}
+use Rattle.goals.specs.applied_clauses.Trees.{tree_of, dot}
+use Rattle.goals.specs.declared.applied_clauses.applied_tree.AppliedTree.{AppliedTree, the_lemmas}
+use Rattle.goals.specs.declared.applied_clauses.applied_tree.AppliedTree.TheVariants.{Dot}
 use Rattle.goals.specs.Counts.{word_count}
 
 tree_of-dot : (a b : AppliedTree) → tree_of (Dot a b) ≡ dot (tree_of a) (tree_of b)

@@ -8,9 +8,9 @@ use Rattle.std.proofs.lemmas.Bool.Decides.{nat_tests}
 use Rattle.patterns.specs.Letters.{form, letter_count, times}
 use Rattle.patterns.specs.declared.pattern.Pattern.TheVariants as pattern
 use Rattle.patterns.proofs.Forms.{form_nothing, form_letter, form_dot, form_either, form_repeat}
-use Rattle.graph_paths.specs.Outcome.{edge_count}
-use Rattle.applied_clauses.specs.Trees as tree
-use Rattle.applied_clauses.specs.Trees.{Tree}
+use Rattle.filters_paths.specs.Outcome.{edge_count}
+use Rattle.goals.specs.applied_clauses.Trees as tree
+use Rattle.goals.specs.applied_clauses.Trees.{Tree}
 use Rattle.goals.specs.Counts.{greatest, joined_letters, longest, one_of, tree_letters}
 use Rattle.goals.specs.Forms.{Pattern, dots, either_of, edge_pattern, path_pattern, pattern_of, quote_patterns, letter_pattern, word_pattern}
 use Rattle.goals.specs.Words.{Quote, Word, edge_words, number_of, product, texts, truth_words, words}

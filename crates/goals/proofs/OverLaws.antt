@@ -11,11 +11,11 @@ use Rattle.fq_core.specs.declared.refusal.Fault.TheVariants as fault
 use Rattle.fq_core.specs.declared.refusal.Place.TheVariants as place
 use Rattle.fq_core.specs.declared.refusal.Refusal.{Refusal}
 use Rattle.fql_read.specs.declared.query.Query.{Query}
-use Rattle.applied_clauses.specs.Limits.{passed_limit}
-use Rattle.applied_clauses.specs.Outcome.{too_many}
-use Rattle.applied_clauses.specs.Trees.{Tree, tree_of}
-use Rattle.applied_clauses.specs.declared.applied_tree.AppliedTree.{AppliedTree}
-use Rattle.applied_clauses.specs.Within.{tree_within}
+use Rattle.goals.specs.applied_clauses.Limits.{passed_limit}
+use Rattle.goals.specs.applied_clauses.Outcome.{too_many}
+use Rattle.goals.specs.applied_clauses.Trees.{Tree, tree_of}
+use Rattle.goals.specs.declared.applied_clauses.applied_tree.AppliedTree.{AppliedTree}
+use Rattle.goals.specs.applied_clauses.Within.{tree_within}
 use Rattle.goals.specs.Forms.{quote_patterns}
 use Rattle.goals.specs.Over.{IsPlanOver}
 use Rattle.goals.specs.Plans.{IsTreeOutcome, first_cause, goals_of, has_long_pattern, late_causes, most_letters, most_words, plan_with, refused, tree_causes}

@@ -8,9 +8,9 @@ use Rattle.cfa.specs.declared.parts.GraphParts.{GraphParts}
 use Rattle.fql_read.specs.declared.query.Clause.{Clause}
 use Rattle.patterns.specs.declared.pattern.Pattern.TheVariants as pattern
 use Rattle.patterns.proofs.Forms.{form_nothing, form_letter, form_dot, form_either, form_repeat}
-use Rattle.applied_clauses.specs.Trees as tree
-use Rattle.applied_clauses.specs.Trees.{Tree}
-use Rattle.applied_clauses.specs.Within.{has_edges, is_edge, is_node, tree_within}
+use Rattle.goals.specs.applied_clauses.Trees as tree
+use Rattle.goals.specs.applied_clauses.Trees.{Tree}
+use Rattle.goals.specs.applied_clauses.Within.{has_edges, is_edge, is_node, tree_within}
 use Rattle.goals.specs.Forms.{Pattern, dots, either_of, edge_pattern, path_pattern, pattern_of, quote_patterns, letter_pattern, word_pattern}
 use Rattle.goals.specs.GoalForm.{GoalForm}
 use Rattle.goals.specs.Over.{form_there, letter_there, pattern_there, word_there}

@@ -9,9 +9,9 @@ use Rattle.std.proofs.lemmas.List.{length-map}
 use Rattle.std.proofs.lemmas.List.Folds.{list_all-append}
 use Rattle.indexmap.specs.IndexSet.{insert_key, insert_all}
 use Rattle.cfa.specs.declared.parts.GraphParts.{GraphParts}
-use Rattle.applied_clauses.specs.Trees as tree
-use Rattle.applied_clauses.specs.Trees.{Tree}
-use Rattle.applied_clauses.specs.Within.{has_edges, is_edge, is_node, tree_within}
+use Rattle.goals.specs.applied_clauses.Trees as tree
+use Rattle.goals.specs.applied_clauses.Trees.{Tree}
+use Rattle.goals.specs.applied_clauses.Within.{has_edges, is_edge, is_node, tree_within}
 use Rattle.goals.specs.Forms.{Pattern, quote_patterns, word_pattern}
 use Rattle.goals.specs.GoalForm.{GoalForm}
 use Rattle.goals.specs.Over.{IsPlanOver, letter_there, word_there}

@@ -4,8 +4,8 @@ use Rattle.std.specs.List.{flat_map}
 use Rattle.std.proofs.lemmas.List.{append-nil, length-map, take_more}
 use Rattle.std.proofs.Math.Nat.{suc-mul}
 use Rattle.std.proofs.lemmas.Grind.{flat_map-append}
-use Rattle.applied_clauses.specs.Trees as tree
-use Rattle.applied_clauses.specs.Trees.{Tree}
+use Rattle.goals.specs.applied_clauses.Trees as tree
+use Rattle.goals.specs.applied_clauses.Trees.{Tree}
 use Rattle.goals.specs.Words.{Text, Word, edge_words, product, truth_words, words}
 use Rattle.goals.specs.Counts.{truth_count, word_count}
 use Rattle.goals.specs.declared.goal_letter.GoalLetter.TheVariants.{Node, Edge, Predicate, Absent}

@@ -3,8 +3,8 @@ use Rattle.std.specs.Prelude.{Bool, false, ◌||◌, nat_lt, if◌then◌else◌
 use Rattle.std.specs.Option.{option_map_or}
 use Rattle.fq_core.specs.declared.refusal.Place.TheVariants as place
 use Rattle.fq_core.specs.declared.refusal.Refusal.{Refusal}
-use Rattle.applied_clauses.specs.Outcome.{too_many}
-use Rattle.applied_clauses.specs.Trees.{Tree}
+use Rattle.goals.specs.applied_clauses.Outcome.{too_many}
+use Rattle.goals.specs.applied_clauses.Trees.{Tree}
 use Rattle.goals.specs.Counts.{longest, tree_letters, word_count}
 use Rattle.goals.specs.Plans.{most_letters, most_words, refused}
 use Rattle.goals.specs.Words.{Quote}

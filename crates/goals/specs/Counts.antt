@@ -2,9 +2,9 @@
 use Rattle.std.specs.Prelude.{ℕ, ◌+◌, ◌*◌, ◌==◌, ◌||◌, max, if◌then◌else◌, List, [], ◌∷◌, length, map, slice_get}
 use Rattle.std.specs.Option.{option_map_or}
 use Rattle.patterns.specs.Letters.{times}
-use Rattle.graph_paths.specs.Outcome.{edge_count}
-use Rattle.applied_clauses.specs.Trees as tree
-use Rattle.applied_clauses.specs.Trees.{Tree}
+use Rattle.filters_paths.specs.Outcome.{edge_count}
+use Rattle.goals.specs.applied_clauses.Trees as tree
+use Rattle.goals.specs.applied_clauses.Trees.{Tree}
 use Rattle.goals.specs.Words.{Text, Quote, number_of, texts}
 
 -- how many letters a clause has as a pattern, repetitions unrolled

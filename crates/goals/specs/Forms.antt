@@ -4,8 +4,8 @@ use Rattle.patterns.specs.declared.pattern.Pattern as declared
 use Rattle.patterns.specs.declared.pattern.Pattern.TheVariants as pattern
 use Rattle.patterns.specs.declared.letter.Letter.{Letter}
 use Rattle.patterns.specs.declared.letter.Letter.TheVariants as letter
-use Rattle.applied_clauses.specs.Trees as tree
-use Rattle.applied_clauses.specs.Trees.{Tree}
+use Rattle.goals.specs.applied_clauses.Trees as tree
+use Rattle.goals.specs.applied_clauses.Trees.{Tree}
 use Rattle.goals.specs.Words.{Word, Quote}
 use Rattle.goals.specs.declared.goal_letter.GoalLetter.{GoalLetter}
 use Rattle.goals.specs.declared.goal_letter.GoalLetter.TheVariants.{Node, Edge, Predicate, Absent, Quoted}

@@ -6,3 +6,4 @@ pub mod Plans
 pub mod Quotes
 pub mod Words
 pub mod Over
+pub mod applied_clauses

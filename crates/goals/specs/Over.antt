@@ -8,7 +8,7 @@ use Rattle.patterns.specs.Match as form
 use Rattle.patterns.specs.Match.{Form}
 use Rattle.patterns.specs.declared.letter.Letter.{Letter}
 use Rattle.patterns.specs.declared.letter.Letter.TheVariants as letter
-use Rattle.applied_clauses.specs.Within.{is_edge, is_node}
+use Rattle.goals.specs.applied_clauses.Within.{is_edge, is_node}
 use Rattle.goals.specs.Forms.{Pattern}
 use Rattle.goals.specs.GoalForm.{GoalForm}
 use Rattle.goals.specs.Plans.{most_words}

@@ -13,12 +13,12 @@ use Rattle.fql_read.specs.declared.query.Query.{Query}
 use Rattle.filters.specs.Names.{missing_name}
 use Rattle.filters.specs.Parts.{whole}
 use Rattle.patterns.specs.Letters.{form, letter_count}
-use Rattle.applied_clauses.specs.Applied.{applied, base_of}
-use Rattle.applied_clauses.specs.Limits.{passed_limit}
-use Rattle.applied_clauses.specs.Missing.{missing_in}
-use Rattle.applied_clauses.specs.Outcome.{too_many}
-use Rattle.applied_clauses.specs.Trees.{Tree, tree_of}
-use Rattle.applied_clauses.specs.declared.applied_tree.AppliedTree.{AppliedTree}
+use Rattle.goals.specs.applied_clauses.Applied.{applied, base_of}
+use Rattle.goals.specs.applied_clauses.Limits.{passed_limit}
+use Rattle.goals.specs.applied_clauses.Missing.{missing_in}
+use Rattle.goals.specs.applied_clauses.Outcome.{too_many}
+use Rattle.goals.specs.applied_clauses.Trees.{Tree, tree_of}
+use Rattle.goals.specs.declared.applied_clauses.applied_tree.AppliedTree.{AppliedTree}
 use Rattle.goals.specs.Words.{Word, texts, quotes_of, words_of, goal_words}
 use Rattle.goals.specs.Forms.{Pattern, pattern_of, quote_patterns, word_pattern}
 use Rattle.goals.specs.GoalForm.{GoalForm}

@@ -1,6 +1,6 @@
 -- Quoted letters as they lie in memory.
 use Rattle.std.specs.Prelude.{List, map}
-use Rattle.applied_clauses.specs.Trees.{tree_of}
+use Rattle.goals.specs.applied_clauses.Trees.{tree_of}
 use Rattle.goals.specs.Words.{Quote}
 use Rattle.goals.specs.declared.quotes.QuotedLetter.{QuotedLetter}
 

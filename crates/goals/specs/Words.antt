@@ -4,8 +4,8 @@ use Rattle.std.specs.List.{flat_map, position_or_len}
 use Rattle.std.specs.Str.{bytes_eq}
 use Rattle.std.specs.Cmp.Lexicographic.{pointwise}
 use Rattle.indexmap.specs.IndexSet.{insert_all}
-use Rattle.applied_clauses.specs.Trees as tree
-use Rattle.applied_clauses.specs.Trees.{Tree}
+use Rattle.goals.specs.applied_clauses.Trees as tree
+use Rattle.goals.specs.applied_clauses.Trees.{Tree}
 use Rattle.goals.specs.declared.goal_letter.GoalLetter.{GoalLetter}
 use Rattle.goals.specs.declared.goal_letter.GoalLetter.TheVariants.{Node, Edge, Predicate, Absent, Quoted}
 

@@ -1,13 +1,13 @@
 // Counts of words and letters, of which nothing has to be listed.
 ghost use Rattle.std.specs.Prelude.{◌≡◌, ◌+◌, ◌-◌, ◌*◌, ◌^◌, min, length, map};
-ghost use Rattle.applied_clauses.specs.Trees.{tree_of};
+ghost use Rattle.goals.specs.applied_clauses.Trees.{tree_of};
 ghost use Rattle.goals.specs.Counts.{greatest, joined_letters, longest, one_of, quote_letters, tree_letters, truth_count, word_count};
 ghost use Rattle.goals.specs.Quotes.{quotes_in};
-ghost use Rattle.graph_paths.specs.Outcome.{edge_count};
+ghost use Rattle.filters_paths.specs.Outcome.{edge_count};
 ghost use Rattle.patterns.specs.Letters.{times};
 
+use crate::applied_clauses::AppliedTree;
 use crate::quotes::{QuotedLetter, number_of};
-use applied_clauses::AppliedTree;
 use containers::Vector;
 use fq_core::Name;
 
@@ -44,7 +44,7 @@ fn times(least: u32, most: Option<u32>) -> u64
 }
 
 /// How many letters a clause has as a pattern, repetitions unrolled, or the greatest u64 where there are more.
-#[tactic(auto, using(patterns::proofs::Capped::counted), unfolding(applied_clauses::specs::Trees::tree_of))]
+#[tactic(auto, using(patterns::proofs::Capped::counted), unfolding(crate::specs::applied_clauses::Trees::tree_of))]
 pub(crate) fn tree_letters(tree: &AppliedTree) -> u64
     ensures { result ≡ min (tree_letters (tree_of tree.now)) (2 ^ 64 - 1) }
 {
@@ -90,7 +90,7 @@ fn node_word_count(nodes: &[u32], predicates: &[u32]) -> u64
 }
 
 /// How many words a clause has, or the greatest u64 where there are more.
-#[tactic(auto, using(patterns::proofs::Capped::counted, crate::proofs::Capped::capped_product), unfolding(applied_clauses::specs::Trees::tree_of))]
+#[tactic(auto, using(patterns::proofs::Capped::counted, crate::proofs::Capped::capped_product), unfolding(crate::specs::applied_clauses::Trees::tree_of))]
 pub(crate) fn word_count(tree: &AppliedTree) -> u64
     ensures { result ≡ min (word_count (tree_of tree.now)) (2 ^ 64 - 1) }
 {
@@ -141,7 +141,7 @@ fn quote_letters(quotes: &[QuotedLetter], text: &Name) -> u64
 }
 
 /// The greatest number of letters of the pattern of a word of a clause, or the greatest u64 where it is more.
-#[tactic(auto, using(patterns::proofs::Capped::counted), unfolding(applied_clauses::specs::Trees::tree_of))]
+#[tactic(auto, using(patterns::proofs::Capped::counted), unfolding(crate::specs::applied_clauses::Trees::tree_of))]
 pub(crate) fn longest(tree: &AppliedTree, quotes: &[QuotedLetter]) -> u64
     ensures { result ≡ min (longest (quotes_in quotes.now) (tree_of tree.now)) (2 ^ 64 - 1) }
 {

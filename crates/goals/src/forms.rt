@@ -1,11 +1,11 @@
 // The patterns of clauses and of words.
 ghost use Rattle.std.specs.Prelude.{◌≡◌, IfOk, [], ◌∷◌, map, slice_index_or};
-ghost use Rattle.applied_clauses.specs.Trees.{tree_of};
+ghost use Rattle.goals.specs.applied_clauses.Trees.{tree_of};
 ghost use Rattle.goals.specs.Forms.{edge_pattern, either_of, letter_pattern, path_pattern, pattern_of, word_pattern};
 ghost use Rattle.patterns.specs.declared.pattern.Pattern.TheVariants as pattern;
 
+use crate::applied_clauses::AppliedTree;
 use crate::goal_letter::GoalLetter;
-use applied_clauses::AppliedTree;
 use containers::{Boxed, TryClone, Vector};
 use fq_core::Memory;
 use patterns::{Letter, NumberSet, Pattern};
@@ -109,7 +109,7 @@ fn paths_pattern(alloc: Global, paths: &[Vector<u32>]) -> Result<Pattern<Letter>
 }
 
 /// A clause as a regular pattern, which shares the sets of its letters.
-#[tactic(auto, unfolding(applied_clauses::specs::Trees::tree_of))]
+#[tactic(auto, unfolding(crate::specs::applied_clauses::Trees::tree_of))]
 pub(crate) fn pattern_of(alloc: Global, tree: &AppliedTree) -> Result<Pattern<Letter>, Memory>
     ensures { IfOk result (λ p. p ≡ pattern_of (tree_of tree.now)) }
 {

@@ -1,7 +1,7 @@
 // What follows from the definitions alone.
 ghost use Rattle.std.specs.Prelude.{◌≡◌, ◌↔◌, map};
 ghost use Rattle.std.specs.List.{AllPairs, Contains};
-ghost use Rattle.applied_clauses.specs.Trees.{Tree};
+ghost use Rattle.goals.specs.applied_clauses.Trees.{Tree};
 ghost use Rattle.goals.specs.GoalForm.{GoalForm};
 ghost use Rattle.goals.specs.Plans.{goals_of};
 ghost use Rattle.goals.specs.Words.{Word, goal_words, words_of};

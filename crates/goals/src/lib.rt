@@ -4,9 +4,14 @@
 //! It stands on `applied_clauses`. The layers above use the contract of [`plan_of`]: the plan of a query is exactly that of
 //! specs/ (`plan_with`), or the refusal is the first of the query's causes (`causes`). A goal is seen by contracts as its
 //! word and its pattern, and in memory goals share the patterns of their quoted letters. Start at planning.rt.
+//!
+//! It has these modules too:
+//!
+//! - [`applied_clauses`]: What the letters of a query's clauses stand for in a control flow automaton.
 #![tactic(auto)]
 
 mod answer;
+pub mod applied_clauses;
 mod counts;
 mod distinct;
 mod forms;

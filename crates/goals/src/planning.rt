@@ -1,12 +1,12 @@
 // Plans of queries.
 ghost use Rattle.std.specs.Prelude.{◌≡◌, ◌||◌, ℕ, [], false, true, map, nat_lt, None, IfOk, IfSome, IsTrue, option_and_then, option_map};
 ghost use Rattle.std.specs.Option.{option_map_or};
-ghost use Rattle.applied_clauses.specs.Applied.{applied, base_of};
-ghost use Rattle.applied_clauses.specs.Limits.{passed_limit};
-ghost use Rattle.applied_clauses.specs.Missing.{missing_in};
-ghost use Rattle.applied_clauses.specs.Outcome.{too_many};
-ghost use Rattle.applied_clauses.specs.Trees.{tree_of};
-ghost use Rattle.applied_clauses.specs.Within.{tree_within};
+ghost use Rattle.goals.specs.applied_clauses.Applied.{applied, base_of};
+ghost use Rattle.goals.specs.applied_clauses.Limits.{passed_limit};
+ghost use Rattle.goals.specs.applied_clauses.Missing.{missing_in};
+ghost use Rattle.goals.specs.applied_clauses.Outcome.{too_many};
+ghost use Rattle.goals.specs.applied_clauses.Trees.{tree_of};
+ghost use Rattle.goals.specs.applied_clauses.Within.{tree_within};
 ghost use Rattle.cfa.specs.declared.parts.GraphParts.{GraphParts};
 ghost use Rattle.filters.specs.Names.{missing_name};
 ghost use Rattle.filters.specs.Parts.{IsWithin, part_of, whole};
@@ -21,6 +21,7 @@ ghost use Rattle.goals.specs.Words.{quotes_of, texts};
 ghost use Rattle.fq_core.specs.declared.refusal.Fault.TheVariants as fault;
 ghost use Rattle.fq_core.specs.declared.refusal.Place.TheVariants as place;
 
+use crate::applied_clauses::{AppliedTree, apply_clause, base_graph, missing_in};
 use crate::counts::{longest, tree_letters, word_count};
 use crate::distinct::distinct;
 use crate::forms::pattern_of;
@@ -29,7 +30,6 @@ use crate::goal_letter::GoalLetter;
 use crate::plan::{PassingPattern, Plan};
 use crate::quotes::{QuotedLetter, gathered};
 use crate::words::words;
-use applied_clauses::{AppliedTree, apply_clause, base_graph, missing_in};
 use cfa::Graph;
 use containers::{TryClone, Vector};
 use filters::{TargetGraph, missing};

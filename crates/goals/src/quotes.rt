@@ -2,12 +2,12 @@
 ghost use Rattle.std.specs.Prelude.{◌≡◌, IfOk};
 ghost use Rattle.std.specs.List.{list_any};
 ghost use Rattle.std.specs.Str.{bytes_eq};
-ghost use Rattle.applied_clauses.specs.Trees.{tree_of};
+ghost use Rattle.goals.specs.applied_clauses.Trees.{tree_of};
 ghost use Rattle.goals.specs.Quotes.{quotes_in};
 ghost use Rattle.goals.specs.Words.{number_of, quoted, same_text, texts};
 ghost use Rattle.indexmap.specs.IndexSet.{insert_all, insert_key};
 
-use applied_clauses::AppliedTree;
+use crate::applied_clauses::AppliedTree;
 use fq_core::{Memory, Name};
 use std::alloc::Global;
 
@@ -55,7 +55,7 @@ fn with_quote<'a>(
 }
 
 /// These quoted letters, and behind them those of the clause whose texts aren't there yet.
-#[tactic(auto, using(crate::proofs::Found::insert_two), unfolding(applied_clauses::specs::Trees::tree_of))]
+#[tactic(auto, using(crate::proofs::Found::insert_two), unfolding(crate::specs::applied_clauses::Trees::tree_of))]
 pub(crate) fn gathered<'a>(
     tree: &'a AppliedTree,
     found: Vec<QuotedLetter<'a>>,

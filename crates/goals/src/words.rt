@@ -1,15 +1,15 @@
 // The words of clauses.
 ghost use Rattle.std.specs.Prelude.{◌≡◌, ◌++◌, [], ◌∷◌, IfOk, map};
 ghost use Rattle.std.specs.List.{flat_map};
-ghost use Rattle.applied_clauses.specs.Trees.{tree_of};
+ghost use Rattle.goals.specs.applied_clauses.Trees.{tree_of};
 ghost use Rattle.goals.specs.Quotes.{quotes_in};
 ghost use Rattle.goals.specs.Words.{edge_words, number_of, product, texts, truth_words, words};
 ghost use Rattle.goals.specs.declared.goal_letter.GoalLetter.TheVariants as letter;
 
+use crate::applied_clauses::AppliedTree;
 use crate::counts::word_count;
 use crate::goal_letter::GoalLetter;
 use crate::quotes::{QuotedLetter, number_of};
-use applied_clauses::AppliedTree;
 use containers::{TryClone, Vector};
 use fq_core::{Memory, Name};
 use std::alloc::{AllocError, Global};
@@ -209,7 +209,7 @@ fn joined(
 }
 
 /// The words of a clause, in order. Nothing is made of a part without words, so no part has more words than the clause.
-#[tactic(auto, unfolding(applied_clauses::specs::Trees::tree_of))]
+#[tactic(auto, unfolding(crate::specs::applied_clauses::Trees::tree_of))]
 pub(crate) fn words(
     alloc: Global,
     tree: &AppliedTree,

@@ -4,10 +4,10 @@ use Rattle.std.specs.Prelude.{reverse}
 use Rattle.std.specs.List.{filter_map, flat_map, zip}
 use Rattle.std.proofs.lemmas.List.{length-map, map-append}
 use Rattle.std.proofs.lemmas.List.Elements.{All-map}
-use Rattle.formula_laws.proofs.Rows.{low_bits_of_number}
+use Rattle.goal_formula_laws.proofs.formula_laws.Rows.{low_bits_of_number}
 use Rattle.goal_formula.specs.Bits.{bit_in, number_in}
 use Rattle.goal_formula.specs.declared.goal.GoalFormula.{GoalFormula}
-use Rattle.input_words.specs.Worlds.{low_bits}
+use Rattle.unwinder.specs.input_words.Worlds.{low_bits}
 use Rattle.path_runner.specs.Masks.{number_of_bits}
 use Rattle.least_input.specs.Fixing.{InputBit, bits_of, literal_of, row_bits, rows_bits, settings}
 use Rattle.least_input.specs.Parts.{numbers_in, set_as}

@@ -11,8 +11,8 @@ use Rattle.cnf.specs.Clauses.{IsLiteral}
 use Rattle.cnf.specs.Formulas.{Satisfies, is_true_literal}
 use Rattle.cnf.specs.declared.derivation.Derivation.{Derivation}
 use Rattle.cnf.specs.declared.formula.Formula.{Formula}
-use Rattle.formula_laws.proofs.Units.{units_hold, units_keep}
-use Rattle.formula_laws.specs.Units.{unit_clauses, with_units}
+use Rattle.goal_formula_laws.proofs.formula_laws.Units.{units_hold, units_keep}
+use Rattle.goal_formula_laws.specs.formula_laws.Units.{unit_clauses, with_units}
 use Rattle.goal_formula.specs.Bits.{assignment}
 use Rattle.search.specs.Laws.{IsFormula, is_over}
 use Rattle.search.specs.Nexts.{IsModel, IsRefutation}

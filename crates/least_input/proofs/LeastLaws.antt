@@ -14,19 +14,19 @@ use Rattle.cfa.specs.declared.parts.Function.{Function}
 use Rattle.cfa.specs.declared.parts.GraphParts.{GraphParts}
 use Rattle.cfa.specs.declared.state.Predicates.{Predicates}
 use Rattle.cnf.specs.Formulas.{Satisfies, is_true_literal}
-use Rattle.formula_laws.proofs.Orders.{first_bit_decides, lower_is_before}
-use Rattle.formula_laws.proofs.Units.{units_refuted}
-use Rattle.formula_laws.specs.Orders.{FirstDifferAt, IsBefore, bits_in_order}
+use Rattle.goal_formula_laws.proofs.formula_laws.Orders.{first_bit_decides, lower_is_before}
+use Rattle.goal_formula_laws.proofs.formula_laws.Units.{units_refuted}
+use Rattle.goal_formula_laws.specs.formula_laws.Orders.{FirstDifferAt, IsBefore, bits_in_order}
 use Rattle.goal_formula.proofs.InputWorlds.{input_given}
 use Rattle.goal_formula.specs.Bits.{assignment, bit_in, input_from, number_in}
 use Rattle.goal_formula.specs.Exact.{IsExact}
 use Rattle.goal_formula.specs.declared.goal.GoalFormula.{GoalFormula}
 use Rattle.goals.specs.GoalForm.{GoalForm}
 use Rattle.goals.specs.declared.plan.Plan.{Plan}
-use Rattle.hits.specs.Inputs.{InputHitsWithin}
+use Rattle.measurer_hits.specs.hits.Inputs.{InputHitsWithin}
 use Rattle.path_runner.specs.Masks.{number_of_bits}
-use Rattle.reached.specs.declared.bounds.Bounds.{Bounds}
-use Rattle.run_laws.proofs.Taken.{fitted_words_alike}
+use Rattle.unwinder_reach.specs.declared.reached.bounds.Bounds.{Bounds}
+use Rattle.measurer_hits.proofs.run_laws.Taken.{fitted_words_alike}
 use Rattle.unwinder.proofs.Made.{parameter_kinds}
 use Rattle.unwinder.specs.Lists.{IsInputFor}
 use Rattle.least_input.specs.Answers.{IsFoundLeast}

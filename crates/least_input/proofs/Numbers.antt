@@ -11,14 +11,14 @@ use Rattle.c_values.proofs.Bits.{width_below}
 use Rattle.c_values.specs.Kind.{IsKind, fit, pattern_of, residue, wrapped}
 use Rattle.c_values.specs.declared.kinds.Kind.{Kind}
 use Rattle.circuit.specs.Truth.{World}
-use Rattle.formula_laws.proofs.Orders.{fewer_bits}
-use Rattle.formula_laws.proofs.Rows.{number_of_low_bits}
+use Rattle.goal_formula_laws.proofs.formula_laws.Orders.{fewer_bits}
+use Rattle.goal_formula_laws.proofs.formula_laws.Rows.{number_of_low_bits}
 use Rattle.goal_formula.proofs.InputWorlds.{number_few}
 use Rattle.goal_formula.specs.Bits.{Gives, IsShaped, bit_in, input_from, input_variables, number_in, words_in}
 use Rattle.goal_formula.specs.declared.goal.GoalFormula.{GoalFormula}
-use Rattle.input_words.proofs.WorldLemmas.{answer_bits-cons, argument_bits-cons, length-argument_bits, length-low_bits, low_bits-fitted, total_width-cons}
-use Rattle.input_words.specs.Worlds.{answer_bits, argument_bits, low_bits, total_width, world_of}
-use Rattle.run_laws.proofs.Fitting.{fitted-fitted}
+use Rattle.unwinder.proofs.input_words.WorldLemmas.{answer_bits-cons, argument_bits-cons, length-argument_bits, length-low_bits, low_bits-fitted, total_width-cons}
+use Rattle.unwinder.specs.input_words.Worlds.{answer_bits, argument_bits, low_bits, total_width, world_of}
+use Rattle.measurer_hits.proofs.run_laws.Fitting.{fitted-fitted}
 use Rattle.least_input.specs.Order.{filled, numbers_of}
 use Rattle.least_input.specs.Parts.{numbers_in, without_sign}
 

@@ -10,7 +10,7 @@ use Rattle.goal_formula.specs.Exact.{IsExact, most_variables}
 use Rattle.goal_formula.specs.declared.goal.GoalFormula.{GoalFormula}
 use Rattle.goals.specs.GoalForm.{GoalForm}
 use Rattle.goals.specs.declared.plan.Plan.{Plan}
-use Rattle.reached.specs.declared.bounds.Bounds.{Bounds}
+use Rattle.unwinder_reach.specs.declared.reached.bounds.Bounds.{Bounds}
 use Rattle.search.proofs.HistoryLaws.{histories_end_law}
 use Rattle.search.specs.declared.moves.History.{History}
 use Rattle.suite.specs.Made.{FallsShort, IsSpent}

@@ -4,7 +4,7 @@ use Rattle.std.specs.Prelude.{ℤ, pos, negsuc, neg_ℤ, not, ◌&&◌, slice_ge
 use Rattle.std.specs.List.{filter_map, list_all}
 use Rattle.std.proofs.lemmas.List.Folds.{list_all-append}
 use Rattle.cnf.specs.Formulas.{is_true_literal}
-use Rattle.formula_laws.specs.Orders.{FirstDifferAt}
+use Rattle.goal_formula_laws.specs.formula_laws.Orders.{FirstDifferAt}
 use Rattle.goal_formula.specs.Bits.{bit_in}
 use Rattle.least_input.specs.Fixing.{literal_of, parts_from, parts_of, variable_of}
 use Rattle.least_input.specs.Parts.{set_as}

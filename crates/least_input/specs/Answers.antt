@@ -7,12 +7,12 @@ use Rattle.cfa.specs.declared.parts.GraphParts.{GraphParts}
 use Rattle.cfa.specs.declared.state.Predicates.{Predicates}
 use Rattle.certificate.specs.Certificates.{IsPair}
 use Rattle.cnf.specs.declared.formula.Formula.{Formula}
-use Rattle.formula_laws.specs.Units.{with_units}
+use Rattle.goal_formula_laws.specs.formula_laws.Units.{with_units}
 use Rattle.goal_formula.specs.Exact.{IsExact}
 use Rattle.goal_formula.specs.declared.goal.GoalFormula.{GoalFormula}
 use Rattle.goals.specs.GoalForm.{GoalForm}
 use Rattle.goals.specs.declared.plan.Plan.{Plan}
-use Rattle.reached.specs.declared.bounds.Bounds.{Bounds}
+use Rattle.unwinder_reach.specs.declared.reached.bounds.Bounds.{Bounds}
 use Rattle.search.specs.Laws.{IsFormula}
 use Rattle.search.specs.Nexts.{IsRefutation}
 use Rattle.search.specs.declared.moves.History.{History}

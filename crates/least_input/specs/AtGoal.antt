@@ -1,6 +1,6 @@
 -- What is answered of a goal that is sought.
 use Rattle.std.specs.Prelude.{ℕ}
-use Rattle.given.specs.declared.goal.Goal.{Goal}
+use Rattle.suite_problem.specs.declared.goal.Goal.{Goal}
 use Rattle.goals.specs.GoalForm.{GoalForm}
 use Rattle.suite.specs.Seeking.{IsGoalOf}
 use Rattle.least_input.specs.Answers.{IsAnswered, IsOpenWhereShort}

@@ -4,9 +4,9 @@ use Rattle.std.specs.List.{filter_map, flat_map, zip}
 use Rattle.c_meaning.specs.declared.input.Input.{Input}
 use Rattle.certificate.specs.Certificates.{IsPair}
 use Rattle.cnf.specs.declared.formula.Formula.{Formula}
-use Rattle.formula_laws.specs.Units.{with_units}
+use Rattle.goal_formula_laws.specs.formula_laws.Units.{with_units}
 use Rattle.goal_formula.specs.declared.goal.GoalFormula.{GoalFormula}
-use Rattle.input_words.specs.Worlds.{low_bits}
+use Rattle.unwinder.specs.input_words.Worlds.{low_bits}
 use Rattle.search.specs.Nexts.{IsRefutation}
 use Rattle.std.proofs.Common.{length}
 use Rattle.least_input.specs.declared.least.Fixed.{Fixed}

@@ -6,8 +6,8 @@ use Rattle.cfa.specs.declared.parts.GraphParts.{GraphParts}
 use Rattle.cfa.specs.declared.state.Predicates.{Predicates}
 use Rattle.goals.specs.GoalForm.{GoalForm}
 use Rattle.goals.specs.declared.plan.Plan.{Plan}
-use Rattle.hits.specs.Inputs.{InputHitsWithin}
-use Rattle.reached.specs.declared.bounds.Bounds.{Bounds}
+use Rattle.measurer_hits.specs.hits.Inputs.{InputHitsWithin}
+use Rattle.unwinder_reach.specs.declared.reached.bounds.Bounds.{Bounds}
 use Rattle.unwinder.specs.Lists.{IsInputFor}
 use Rattle.least_input.specs.Order.{IsLower}
 

@@ -2,7 +2,7 @@
 -- difference decides.
 use Rattle.std.specs.Prelude.{ℕ, zero, suc, List, [], ◌∷◌, ◌++◌}
 use Rattle.c_meaning.specs.declared.input.Input.{Input}
-use Rattle.formula_laws.specs.Orders.{IsBefore}
+use Rattle.goal_formula_laws.specs.formula_laws.Orders.{IsBefore}
 
 -- so many numbers of a list, 0 past its end
 abbrev pub filled : ℕ → List ℕ → List ℕ

@@ -1,7 +1,7 @@
 -- What only the code's parts ask of each other.
 use Rattle.std.specs.Prelude.{◌≡◌, ℕ, ◌≤◌, ◌^◌, ℤ, Bool, false, List, [], ◌∷◌, ◌++◌, map, length, take, Option, Some, None}
 use Rattle.cnf.specs.declared.formula.Formula.{Formula}
-use Rattle.formula_laws.specs.Units.{with_units}
+use Rattle.goal_formula_laws.specs.formula_laws.Units.{with_units}
 use Rattle.search.specs.Laws.{IsFormula}
 use Rattle.search.specs.Nexts.{IsModel}
 use Rattle.search.specs.declared.moves.History.{History}

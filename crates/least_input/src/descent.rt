@@ -9,10 +9,10 @@ ghost use Rattle.least_input.specs.declared.descent.Descent.{Descent as OneDesce
 
 use crate::least::Fixed;
 use cnf::{Clause, Derivation, Formula, negation};
-use confirmation::{Outcome, outcome};
 use containers::Vector;
 use fq_core::Memory;
 use search::History;
+use search_checked::{Outcome, outcome};
 use std::alloc::{AllocError, Global};
 
 /// How far the bits are set: the formula with unit clauses at its end, their literals, a model of it, and what shows of each

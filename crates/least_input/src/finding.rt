@@ -7,13 +7,13 @@ ghost use Rattle.suite.specs.Seeking.{IsFormulaFor};
 use crate::input::numbers_of;
 use crate::least::Least;
 use crate::lowest::{Lowest, lowest_model};
-use confirmation::{Outcome, outcome};
 use containers::Vector;
 use fq_core::Memory;
-use given::Goal;
 use goal_formula::GoalFormula;
+use search_checked::{Outcome, outcome};
 use std::alloc::Global;
 use suite::Sought;
+use suite_problem::Goal;
 
 /// What is found from any model of a goal's formula.
 fn descended(

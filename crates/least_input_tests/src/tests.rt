@@ -8,16 +8,16 @@ use c_meaning::Ends;
 use cfa::Graph;
 use fq_core::Fault;
 use fql_read::{Query, read_query};
-use given::{Entry, Given, Goal, Planned};
 use goals::plan_of;
 use least_input::{Least, find_least};
 use predicates::resolve;
-use reached::Bounds;
 use std::alloc::Global;
 use std::test::Fail;
 use suite::Sought;
+use suite_problem::{Entry, Given, Goal, Planned};
 use test_programs::texts_of;
 use test_unwindings::entry_of;
+use unwinder_reach::reached::Bounds;
 
 // A program, a query whose first goal is asked, and the words and answers of its least input, with how many bits of them
 // are 1.

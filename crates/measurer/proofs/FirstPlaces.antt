@@ -7,9 +7,9 @@ use Rattle.std.proofs.Math.Seq.{drop-cons, drop-length}
 use Rattle.patterns.specs.Match.{Form}
 use Rattle.patterns.specs.declared.letter.Letter.{Letter}
 use Rattle.patterns.specs.declared.path_view.PathView.{PathView}
-use Rattle.run_match.specs.Later.{path_from}
+use Rattle.measurer_hits.specs.run_match.Later.{path_from}
 use Rattle.patterns.specs.Segments.{HasSegment}
-use Rattle.run_match.proofs.LaterMatches.{later_segment, segment_of_later}
+use Rattle.measurer_hits.proofs.run_match.LaterMatches.{later_segment, segment_of_later}
 use Rattle.measurer.specs.Openings.{BeginsWith, IsOpening, first_place}
 
 -- ---- the table

@@ -11,9 +11,9 @@ use Rattle.path_runner.specs.declared.path.PathRecord.{PathRecord}
 use Rattle.goals.specs.GoalForm.{GoalForm, HasItsPattern}
 use Rattle.goals.specs.declared.plan.Plan.{Plan}
 use Rattle.patterns.specs.Segments.{HasSegment}
-use Rattle.word_index.specs.Numbers.{Adds}
-use Rattle.word_index.specs.Walks.{HasGoalWalk, HasWalk, word_at, word_of, is_plain}
-use Rattle.hits.specs.Hits.{path_in, MeetsPassing, Hits, HitsNumber}
+use Rattle.measurer_index.specs.word_index.Numbers.{Adds}
+use Rattle.measurer_index.specs.word_index.Walks.{HasGoalWalk, HasWalk, word_at, word_of, is_plain}
+use Rattle.measurer_hits.specs.hits.Hits.{path_in, MeetsPassing, Hits, HitsNumber}
 use Rattle.measurer.specs.Measured.{HasOtherMatch}
 use Rattle.measurer.proofs.Words.{walk_is_segment}
 

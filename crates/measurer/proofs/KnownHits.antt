@@ -11,7 +11,7 @@ use Rattle.patterns.specs.Segments.{HasSegment}
 use Rattle.patterns.specs.declared.path_view.PathView.{PathView}
 use Rattle.goals.specs.GoalForm.{GoalForm}
 use Rattle.goals.specs.declared.plan.Plan.{Plan}
-use Rattle.hits.specs.Hits.{AreHits, Hits, HitsNumber, MeetsPassing, path_in}
+use Rattle.measurer_hits.specs.hits.Hits.{AreHits, Hits, HitsNumber, MeetsPassing, path_in}
 use Rattle.measurer.specs.Known.{AreKnown, HasHits, view_of}
 use Rattle.measurer.specs.declared.known.KnownPath.{KnownPath}
 

@@ -9,13 +9,13 @@ use Rattle.patterns.specs.declared.letter.Letter.{Letter}
 use Rattle.patterns.specs.declared.path_view.PathView.{PathView}
 use Rattle.automata.specs.Standing.{IsOf}
 use Rattle.automata.specs.declared.nfa.Nfa.{Nfa}
-use Rattle.gap_words.specs.GapWords.{IsGapWordOf}
-use Rattle.gap_words.specs.declared.gap_word.GapWord.{GapWord}
+use Rattle.measurer_index.specs.gap_words.GapWords.{IsGapWordOf}
+use Rattle.measurer_index.specs.declared.gap_words.gap_word.GapWord.{GapWord}
 use Rattle.goals.specs.GoalForm.{GoalForm}
 use Rattle.patterns.specs.Segments.{HasSegment}
-use Rattle.word_index.specs.Numbers.{Adds}
-use Rattle.word_index.specs.Walks.{is_plain}
-use Rattle.word_index.proofs.Steps.{adds_none, adds_same, adds_both}
+use Rattle.measurer_index.specs.word_index.Numbers.{Adds}
+use Rattle.measurer_index.specs.word_index.Walks.{is_plain}
+use Rattle.measurer_index.proofs.word_index.Steps.{adds_none, adds_same, adds_both}
 use Rattle.measurer.specs.Measured.{IsMadeOf, IsMatcherOf, IsMatcherAt, AreMatchers, HasOtherMatch, Tells}
 use Rattle.measurer.specs.Openings.{IsOpening}
 use Rattle.measurer.specs.declared.tables.GoalMatcher.{GoalMatcher}

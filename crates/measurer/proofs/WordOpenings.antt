@@ -11,7 +11,7 @@ use Rattle.goals.specs.Forms.{Pattern, edge_pattern, letter_pattern, word_patter
 use Rattle.goals.specs.GoalForm.{GoalForm, HasItsPattern}
 use Rattle.goals.specs.Words.{Word}
 use Rattle.goals.specs.declared.goal_letter.GoalLetter.TheVariants.{Node, Edge, Predicate, Absent, Quoted}
-use Rattle.run_match.proofs.Matches.{forward}
+use Rattle.measurer_hits.proofs.run_match.Matches.{forward}
 use Rattle.measurer.specs.Openings.{BeginsWith, IsOpening, opening_of}
 use Rattle.measurer.proofs.Words.{edge_walk}
 

@@ -15,8 +15,8 @@ use Rattle.goals.specs.Words.{Word}
 use Rattle.goals.specs.declared.goal_letter.GoalLetter.{GoalLetter}
 use Rattle.goals.specs.declared.goal_letter.GoalLetter.TheVariants.{Node, Edge, Predicate, Absent, Quoted}
 use Rattle.patterns.specs.Segments.{HasSegment}
-use Rattle.run_match.proofs.Matches.{forward}
-use Rattle.word_index.specs.Walks.{Goes, Walks, HasWalk, is_unquoted, is_plain}
+use Rattle.measurer_hits.proofs.run_match.Matches.{forward}
+use Rattle.measurer_index.specs.word_index.Walks.{Goes, Walks, HasWalk, is_unquoted, is_plain}
 
 or_false : (b : Bool) → (b || false) ≡ b
 or_false true = refl

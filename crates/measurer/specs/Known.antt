@@ -5,7 +5,7 @@ use Rattle.path_runner.specs.Counted.{counts_end}
 use Rattle.path_runner.specs.declared.path.PathRecord.{PathRecord}
 use Rattle.patterns.specs.declared.path_view.PathView.{PathView}
 use Rattle.goals.specs.declared.plan.Plan.{Plan}
-use Rattle.hits.specs.Hits.{AreHits, path_in}
+use Rattle.measurer_hits.specs.hits.Hits.{AreHits, path_in}
 use Rattle.measurer.specs.declared.known.KnownPath.{KnownPath}
 
 abbrev pub view_of : KnownPath → PathView

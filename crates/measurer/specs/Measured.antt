@@ -7,13 +7,13 @@ use Rattle.patterns.specs.declared.letter.Letter.{Letter}
 use Rattle.patterns.specs.declared.path_view.PathView.{PathView}
 use Rattle.automata.specs.Standing.{IsOf}
 use Rattle.automata.specs.declared.nfa.Nfa.{Nfa}
-use Rattle.gap_words.specs.GapWords.{IsGapWordOf}
+use Rattle.measurer_index.specs.gap_words.GapWords.{IsGapWordOf}
 use Rattle.goals.specs.GoalForm.{GoalForm, HasItsPattern}
 use Rattle.goals.specs.declared.plan.PassingPattern.{PassingPattern}
 use Rattle.goals.specs.declared.plan.Plan.{Plan}
 use Rattle.patterns.specs.Segments.{HasSegment}
-use Rattle.word_index.specs.Tables.{IsIndexOf}
-use Rattle.word_index.specs.Walks.{is_plain}
+use Rattle.measurer_index.specs.word_index.Tables.{IsIndexOf}
+use Rattle.measurer_index.specs.word_index.Walks.{is_plain}
 use Rattle.measurer.specs.Openings.{IsOpening}
 use Rattle.measurer.specs.declared.tables.GoalMatcher.{GoalMatcher}
 use Rattle.measurer.specs.declared.tables.Matcher.{Matcher}

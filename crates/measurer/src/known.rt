@@ -1,7 +1,7 @@
 // The paths of runs that were measured before.
 ghost use Rattle.std.specs.Prelude.{◌≡◌, true, IfOk, IfSome};
 ghost use Rattle.goals.specs.declared.plan.Plan.{Plan};
-ghost use Rattle.hits.specs.Hits.{path_in};
+ghost use Rattle.measurer_hits.specs.hits.Hits.{path_in};
 ghost use Rattle.measurer.specs.Known.{AreKnown, HasHits, view_of};
 
 use fq_core::Memory;

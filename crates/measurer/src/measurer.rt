@@ -3,9 +3,9 @@ ghost use Rattle.std.specs.Prelude.{◌≡◌, ◌↔◌, ◌⊎◌, [], ◌∷�
 ghost use Rattle.std.specs.List.{Contains};
 ghost use Rattle.patterns.specs.Paths.{IsPath};
 ghost use Rattle.measurer.specs.Firsts.{first_hit, or_none};
-ghost use Rattle.word_index.specs.Numbers.{Adds};
-ghost use Rattle.word_index.specs.Walks.{HasGoalWalk};
-ghost use Rattle.hits.specs.Hits.{AreHits, HitsNumber, path_in};
+ghost use Rattle.measurer_index.specs.word_index.Numbers.{Adds};
+ghost use Rattle.measurer_index.specs.word_index.Walks.{HasGoalWalk};
+ghost use Rattle.measurer_hits.specs.hits.Hits.{AreHits, HitsNumber, path_in};
 ghost use Rattle.c_meaning.specs.declared.ends.Ends.{Ends as OneEnds};
 ghost use Rattle.path_runner.specs.Counted.{counts_end};
 ghost use Rattle.measurer.specs.Known.{AreKnown};
@@ -19,10 +19,10 @@ use crate::tables::{Tables, tables_of};
 use containers::Vector;
 use fq_core::Memory;
 use goals::Plan;
+use measurer_hits::run_match::RunPath;
+use measurer_index::word_index::Numbers;
 use path_runner::{Ends, PathRecord};
-use run_match::RunPath;
 use std::alloc::Global;
-use word_index::Numbers;
 
 /// Tells which goals of a plan recorded runs hit. Contracts see what plan it was made for (`IsMadeFor`) and the hits of each
 /// run so far (`hits_of`).
@@ -43,7 +43,7 @@ impl Measurer {
     ghost use Rattle.std.specs.Prelude.{◌≡◌, ◌↔◌, ◌⊎◌, [], ◌∷◌, ◌++◌, List, ℕ, true, false, IfOk, OnOk, OnErr, slice_index};
     ghost use Rattle.patterns.specs.Paths.{IsPath};
     ghost use Rattle.measurer.specs.Firsts.{first_hit, or_none};
-    ghost use Rattle.hits.specs.Hits.{AreHits, path_in};
+    ghost use Rattle.measurer_hits.specs.hits.Hits.{AreHits, path_in};
     ghost use Rattle.measurer.specs.Measurers.{IsMadeFor, hits_of};
 
     /// A measurer for the goals of a plan, without runs.

@@ -4,7 +4,7 @@ ghost use Rattle.measurer.specs.Openings.{AreFirstPlaces, first_place, opening_o
 
 use fq_core::Memory;
 use goals::GoalLetter;
-use run_match::RunPath;
+use measurer_hits::run_match::RunPath;
 use std::alloc::Global;
 
 /// The edge with which a word begins, unless matches have to begin at the first state.

@@ -2,10 +2,10 @@
 ghost use Rattle.std.specs.Prelude.{◌≡◌, ◌↔◌, Bool, List, true, IfOk, OnOk, length};
 ghost use Rattle.patterns.specs.Match.{Form};
 ghost use Rattle.automata.specs.Standing.{IsOf};
-ghost use Rattle.gap_words.specs.Placed.{path_of};
+ghost use Rattle.measurer_index.specs.gap_words.Placed.{path_of};
 ghost use Rattle.goals.specs.GoalForm.{GoalForm};
 ghost use Rattle.patterns.specs.Segments.{HasSegment};
-ghost use Rattle.word_index.specs.Numbers.{Adds};
+ghost use Rattle.measurer_index.specs.word_index.Numbers.{Adds};
 ghost use Rattle.measurer.specs.Measured.{AreMatchers, HasOtherMatch, Tells};
 ghost use Rattle.measurer.specs.Openings.{AreFirstPlaces, IsOpening};
 
@@ -13,11 +13,11 @@ use crate::openings::{first_places, first_state};
 use crate::tables::{GoalMatcher, Matcher};
 use automata::Nfa;
 use fq_core::Memory;
-use gap_words::{GapSets, PathPlaces};
+use measurer_hits::run_match::{RunPath, has_match};
+use measurer_index::gap_words::{GapSets, PathPlaces};
+use measurer_index::word_index::Numbers;
 use patterns::Letter;
-use run_match::{RunPath, has_match};
 use std::alloc::Global;
-use word_index::Numbers;
 
 /// Whether a path has a match of the pattern of an automaton. Where each match takes the same edge first, the automaton
 /// begins at the first state from which the path takes it, and isn't run where it never does.

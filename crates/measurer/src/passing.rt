@@ -1,13 +1,13 @@
 // The passing clause.
 ghost use Rattle.std.specs.Prelude.{◌≡◌, ◌↔◌, Option, true, IfOk};
 ghost use Rattle.goals.specs.declared.plan.PassingPattern.{PassingPattern};
-ghost use Rattle.hits.specs.Hits.{MeetsPassing};
+ghost use Rattle.measurer_hits.specs.hits.Hits.{MeetsPassing};
 ghost use Rattle.measurer.specs.Measured.{IsPassingAutomaton};
 
 use automata::Nfa;
 use fq_core::Memory;
+use measurer_hits::run_match::{RunPath, has_match};
 use patterns::Letter;
-use run_match::{RunPath, has_match};
 use std::alloc::Global;
 
 /// Whether a path meets the passing clause, of which this is the automaton where there is one.

@@ -10,11 +10,11 @@ use crate::openings::opening_of;
 use automata::{Nfa, build};
 use containers::Vector;
 use fq_core::Memory;
-use gap_words::{GapSets, GapWord};
 use goals::{Goal, PassingPattern, Plan};
+use measurer_index::gap_words::{GapSets, GapWord};
+use measurer_index::word_index::{WordIndex, is_plain};
 use patterns::{Letter, Pattern};
 use std::alloc::Global;
-use word_index::{WordIndex, is_plain};
 
 /// What tells the matches of a pattern.
 #[derive(Debug, Drop)]

@@ -1,7 +1,7 @@
 // Expected hits: by hand, from the edges of the source and the definition of matches.
 ghost use Rattle.std.specs.Prelude.{IsTrue};
 ghost use Rattle.patterns.specs.Paths.{IsPath};
-ghost use Rattle.hits.specs.Hits.{path_in};
+ghost use Rattle.measurer_hits.specs.hits.Hits.{path_in};
 ghost use Rattle.measurer.specs.Measurers.{IsMadeFor};
 
 mod compared;

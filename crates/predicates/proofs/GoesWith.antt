@@ -14,8 +14,8 @@ use Rattle.cfa.specs.declared.state.Predicates.{Predicates}
 use Rattle.cfa.specs.Graph.{IsGraph, room_of}
 use Rattle.cfa.specs.Predicates.{IsPredicates}
 use Rattle.cfa.specs.Rules.{expr_fits}
-use Rattle.tree_contents.specs.Contents.{ExpressionsOfTexts, tree_passes}
-use Rattle.typing_fits.specs.Laws.{ScopedExpressionsFit}
+use Rattle.c_types_laws.specs.tree_contents.Contents.{ExpressionsOfTexts, tree_passes}
+use Rattle.c_types_laws.specs.typing_fits.Laws.{ScopedExpressionsFit}
 use Rattle.predicates.specs.Outcome.{ArePredicatesOf}
 use Rattle.predicates.specs.Reading.{AreTreesOf, IsTreeOf, source_of}
 use Rattle.predicates.specs.Typing.{meanings_in}

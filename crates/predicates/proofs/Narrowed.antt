@@ -20,15 +20,15 @@ use Rattle.cfa.specs.declared.expr.Expr.{Expr}
 use Rattle.cfa.specs.declared.parts.Scope.{Scope}
 use Rattle.cfa.specs.declared.parts.Variable.{Variable}
 use Rattle.cfa.specs.Names.{is_named, visible}
-use Rattle.expression_types.specs.declared.scopes.Bound.{Bound}
-use Rattle.expression_types.specs.declared.scopes.Meaning.{Meaning}
-use Rattle.expression_types.specs.declared.scopes.Meaning.TheVariants as meanings
-use Rattle.expression_types.specs.declared.typer.Sort.{Sort}
-use Rattle.expression_types.specs.declared.typer.Sort.TheVariants as sorts
-use Rattle.expression_types.specs.Expressions.{Piece, array_at, array_if, array_meant, array_named, form_rule, form_typing, integer, name_at, named, piece, typing, wanted}
-use Rattle.expression_types.specs.Rule.{At, Rule, behind, fault, look, pure, ◌then◌}
-use Rattle.expression_types.specs.Scopes.{bound_at, has_name, last_place, newest, or_first}
-use Rattle.expression_types.proofs.ScopeLaws.{placed}
+use Rattle.c_type_rules.specs.declared.scopes.Bound.{Bound}
+use Rattle.c_type_rules.specs.declared.scopes.Meaning.{Meaning}
+use Rattle.c_type_rules.specs.declared.scopes.Meaning.TheVariants as meanings
+use Rattle.c_type_rules.specs.declared.typer.Sort.{Sort}
+use Rattle.c_type_rules.specs.declared.typer.Sort.TheVariants as sorts
+use Rattle.c_type_rules.specs.Expressions.{Piece, array_at, array_if, array_meant, array_named, form_rule, form_typing, integer, name_at, named, piece, typing, wanted}
+use Rattle.c_type_rules.specs.Rule.{At, Rule, behind, fault, look, pure, ◌then◌}
+use Rattle.c_type_rules.specs.Scopes.{bound_at, has_name, last_place, newest, or_first}
+use Rattle.c_type_rules.proofs.ScopeLaws.{placed}
 use Rattle.c_types.specs.Declarations.{bound_as}
 use Rattle.c_types.specs.Scoped.{at_scope, done_expr, expression_in, faultless_expr, names_in}
 use Rattle.predicates.specs.Narrowing.{IsMeaning, names_of, names_step, narrowed, seen}

@@ -6,7 +6,7 @@ use Rattle.cfa.specs.declared.parts.GraphParts.{GraphParts}
 use Rattle.cfa.specs.declared.state.Predicates.{Predicates}
 use Rattle.cfa.specs.Graph.{IsGraph}
 use Rattle.cfa.specs.Predicates.{IsPredicates}
-use Rattle.expression_types.specs.Scopes.{has_name}
+use Rattle.c_type_rules.specs.Scopes.{has_name}
 use Rattle.c_types.specs.Scoped.{expression_in}
 use Rattle.cfa.specs.declared.parts.Scope.{Scope}
 use Rattle.predicates.specs.Narrowing.{names_of, narrowed}

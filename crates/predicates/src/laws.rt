@@ -4,8 +4,8 @@ ghost use Rattle.predicates.specs.Laws.{IsReadOnce, Narrowing, OneOutcome, Predi
 
 use c_lex::one_reading;
 use c_parse::laws::one_expression_outcome;
-use tree_contents::laws::expressions_of_texts;
-use typing_fits::laws::scoped_expressions_fit;
+use c_types_laws::tree_contents::laws::expressions_of_texts;
+use c_types_laws::typing_fits::laws::scoped_expressions_fit;
 
 /// A text is read as one expression, or isn't read.
 pub fn one_tree()

@@ -2,7 +2,7 @@
 use Rattle.std.proofs.Common.{◌≡◌, ℕ, suc, ◌+◌, ◌<◌, List, [], ◌∷◌, ◌++◌, drop, get_or, length, slice_get, refl, sym, ap, ◌∙◌, append_assoc, arith}
 use Rattle.std.proofs.Math.Seq.{drop-cons}
 use Rattle.cfa.specs.declared.parts.GraphParts.{GraphParts}
-use Rattle.edge_events.specs.declared.event.Event.{Event}
+use Rattle.tree_events.specs.declared.edge_events.event.Event.{Event}
 use Rattle.report.specs.EventsText.{all_after, entered_after, event_line, event_lines, told_along, told_at}
 
 lines_append : (graph : GraphParts) (entered : List ℕ) (xs ys : List Event) → event_lines graph entered (xs ++ ys) ≡ event_lines graph entered xs ++ event_lines graph (all_after entered xs) ys

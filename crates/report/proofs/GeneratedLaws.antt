@@ -5,8 +5,8 @@ use Rattle.c_values.specs.declared.kinds.Kind.{Kind}
 use Rattle.cfa.specs.declared.parts.GraphParts.{GraphParts}
 use Rattle.goals.specs.declared.plan.Plan.{Plan}
 use Rattle.serde_json.specs.Data.{Data}
-use Rattle.reached.specs.declared.bounds.Bounds.{Bounds}
-use Rattle.given.specs.declared.generated.Generated.{Generated}
+use Rattle.unwinder_reach.specs.declared.reached.bounds.Bounds.{Bounds}
+use Rattle.suite_problem.specs.declared.generated.Generated.{Generated}
 use Rattle.report.specs.GeneratedJson.{bounds_data, found_data, generated_data, inputs_data}
 use Rattle.report.specs.Made.{parameter_kinds}
 

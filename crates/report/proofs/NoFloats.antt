@@ -18,8 +18,8 @@ use Rattle.serde_json.specs.View.{items_of}
 use Rattle.serde_json.specs.Written.{has_float, items_have_float, members_have_float}
 use Rattle.report.specs.Ends.{end_value, result_kind}
 use Rattle.input_text.specs.Printed.{arguments_data, input_data, word_data}
-use Rattle.reached.specs.declared.bounds.Bounds.{Bounds}
-use Rattle.given.specs.declared.generated.Generated.{Generated}
+use Rattle.unwinder_reach.specs.declared.reached.bounds.Bounds.{Bounds}
+use Rattle.suite_problem.specs.declared.generated.Generated.{Generated}
 use Rattle.report.specs.GeneratedJson.{generated_data, inputs_data}
 use Rattle.report.specs.Made.{parameter_kinds}
 use Rattle.report.specs.Json.{count_data, end_data, goal_data, goals_data, measured_data, value_member, with_ends}

@@ -5,10 +5,10 @@ use Rattle.std.specs.List.{flat_map}
 use Rattle.c_values.specs.declared.kinds.Kind.{Kind}
 use Rattle.cfa.specs.declared.parts.Edge.{Edge}
 use Rattle.cfa.specs.declared.parts.GraphParts.{GraphParts}
-use Rattle.edge_events.specs.Told.{told}
-use Rattle.edge_events.specs.declared.event.Event.{Event}
-use Rattle.edge_events.specs.declared.event.What.{What}
-use Rattle.edge_events.specs.declared.event.What.TheVariants.{Outcome, Did, Entered, Left, Answered, Valued, Enters, Again, Always, Straight}
+use Rattle.tree_events.specs.edge_events.Told.{told}
+use Rattle.tree_events.specs.declared.edge_events.event.Event.{Event}
+use Rattle.tree_events.specs.declared.edge_events.event.What.{What}
+use Rattle.tree_events.specs.declared.edge_events.event.What.TheVariants.{Outcome, Did, Entered, Left, Answered, Valued, Enters, Again, Always, Straight}
 use Rattle.path_runner.specs.declared.path.RunEnd.{RunEnd}
 use Rattle.report.specs.Ends.{result_kind}
 use Rattle.report.specs.GraphText.{function_name, input_name, kind_text, mark}

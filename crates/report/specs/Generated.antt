@@ -8,8 +8,8 @@ use Rattle.cfa.specs.declared.parts.GraphParts.{GraphParts}
 use Rattle.goals.specs.declared.answer.Answer.{Answer}
 use Rattle.goals.specs.declared.answer.Answer.TheVariants as answer
 use Rattle.goals.specs.declared.plan.Plan.{Plan}
-use Rattle.reached.specs.declared.bounds.Bounds.{Bounds}
-use Rattle.given.specs.declared.generated.Generated.{Generated}
+use Rattle.unwinder_reach.specs.declared.reached.bounds.Bounds.{Bounds}
+use Rattle.suite_problem.specs.declared.generated.Generated.{Generated}
 use Rattle.report.specs.Made.{made_lines, made_text, parameter_kinds}
 use Rattle.report.specs.Texts.{covered_count, ends_text, goal_lines, suite_line}
 

@@ -10,8 +10,8 @@ use Rattle.serde_json.specs.Data.{Data, Members, array, member, no_members, obje
 use Rattle.serde_json.specs.View.{items_of}
 use Rattle.serde_json.specs.Written.{compact_text}
 use Rattle.input_text.specs.Printed.{input_data}
-use Rattle.reached.specs.declared.bounds.Bounds.{Bounds}
-use Rattle.given.specs.declared.generated.Generated.{Generated}
+use Rattle.unwinder_reach.specs.declared.reached.bounds.Bounds.{Bounds}
+use Rattle.suite_problem.specs.declared.generated.Generated.{Generated}
 use Rattle.report.specs.Generated.{refuted_count, undecided_count}
 use Rattle.report.specs.Json.{count_data, goals_data, with_ends}
 use Rattle.report.specs.Made.{parameter_kinds}

@@ -4,7 +4,7 @@ use Rattle.std.specs.List.{flat_map}
 use Rattle.c_meaning.specs.declared.input.Input.{Input}
 use Rattle.c_values.specs.declared.kinds.Kind.{Kind}
 use Rattle.cfa.specs.declared.parts.GraphParts.{GraphParts}
-use Rattle.reached.specs.declared.bounds.Bounds.{Bounds}
+use Rattle.unwinder_reach.specs.declared.reached.bounds.Bounds.{Bounds}
 use Rattle.report.specs.Ends.{spaced_value}
 use Rattle.report.specs.Generated.{bounds_text}
 use Rattle.report.specs.Made.{arguments_text, parameter_kinds}

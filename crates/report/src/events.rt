@@ -27,10 +27,10 @@ use crate::numbers::push_number;
 use c_values::Kind;
 use cfa::Graph;
 use containers::Vector;
-use edge_events::{Event, What, told};
 use fq_core::{Memory, Name};
 use path_runner::RunEnd;
 use std::alloc::{AllocError, Global};
+use tree_events::edge_events::{Event, What, told};
 
 fn truth_text(truth: bool) -> &'static [u8]
     ensures { result.now ≡ truth_text truth }

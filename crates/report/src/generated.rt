@@ -11,11 +11,11 @@ use crate::made::{parameter_kinds, push_made_lines};
 use crate::numbers::push_number;
 use cfa::Graph;
 use fq_core::Memory;
-use given::Generated;
 use goals::{Answer, Plan};
 use path_runner::Ends;
-use reached::Bounds;
 use std::alloc::{AllocError, Global};
+use suite_problem::Generated;
+use unwinder_reach::reached::Bounds;
 
 /// Appends the bounds of an unwinding.
 pub fn push_bounds(text: &mut Vec<u8>, bounds: Bounds) -> Result<(), AllocError>

@@ -15,13 +15,13 @@ use c_values::Kind;
 use cfa::Graph;
 use containers::Vector;
 use fq_core::Memory;
-use given::Generated;
 use goals::{Answer, Plan};
 use input_text::input_json;
 use path_runner::Ends;
-use reached::Bounds;
 use serde_json::{Value, json};
 use std::alloc::{AllocError, Global};
+use suite_problem::Generated;
+use unwinder_reach::reached::Bounds;
 
 fn bounds_value(alloc: Global, bounds: Bounds, budget: u64) -> Result<Value, AllocError>
     ensures { IfOk result (λ value. view value ≡ bounds_data bounds budget) }

@@ -15,8 +15,8 @@ use cfa::Graph;
 use fq_core::Memory;
 use goals::{Answer, Plan};
 use path_runner::Ends;
-use reached::Bounds;
 use std::alloc::Global;
+use unwinder_reach::reached::Bounds;
 
 /// The line of a goal of this number that an input to the function of the number `entry` covers: its arguments, and the
 /// answers that its run takes where there are any. The input has one word for each parameter.

@@ -13,8 +13,8 @@ use c_meaning::Input;
 use c_values::Kind;
 use cfa::Graph;
 use fq_core::Memory;
-use reached::Bounds;
 use std::alloc::{AllocError, Global};
+use unwinder_reach::reached::Bounds;
 
 // Appends numbers, each after a space, as signed ones of 64 bits.
 fn push_signed(text: &mut Vec<u8>, numbers: &[u64]) -> Result<(), AllocError>

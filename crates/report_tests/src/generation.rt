@@ -10,16 +10,16 @@ use cfa::Graph;
 use containers::Vector;
 use fq_core::Fault;
 use fql_read::read_query;
-use given::Generated;
 use goals::{Answer, Plan, plan_of};
 use path_runner::Ends;
-use reached::Bounds;
 use report::{
     generated_json, generated_text, proved_text, refuted_text, sample_text, undecided_text,
 };
 use std::alloc::{AllocError, Global};
 use std::test::Fail;
+use suite_problem::Generated;
 use test_programs::graph_of;
+use unwinder_reach::reached::Bounds;
 
 const INT: Kind = Kind {
     width: 32,

@@ -12,8 +12,8 @@ use Rattle.cnf.specs.Checks.{numbered, resolved}
 use Rattle.cnf.specs.Clauses.{IsLiteral, has_literal, literal_key}
 use Rattle.cnf.specs.Resolution.{can_resolve, resolvent}
 use Rattle.cnf.proofs.ClauseLaws.{same_literal, equal_literal}
-use Rattle.literal_marks.specs.Marks.{has_places}
-use Rattle.literal_marks.specs.declared.places.Places.TheVariants.{ByKey}
+use Rattle.cnf.specs.literal_marks.Marks.{has_places}
+use Rattle.cnf.specs.declared.literal_marks.places.Places.TheVariants.{ByKey}
 use Rattle.search.specs.declared.trail.Entry.{Entry}
 use Rattle.search.specs.Laws.{is_over}
 use Rattle.search.specs.Chains.{IsBack}

@@ -10,7 +10,7 @@ use Rattle.cnf.specs.Checks.{numbered}
 use Rattle.cnf.specs.Clauses.{IsLiteral, has_literal, literal_key}
 use Rattle.cnf.specs.Resolution.{resolvent}
 use Rattle.cnf.proofs.ClauseLaws.{equal_literal, same_literal}
-use Rattle.literal_marks.proofs.MarksLaws.{int_eq-sym}
+use Rattle.cnf.proofs.literal_marks.MarksLaws.{int_eq-sym}
 use Rattle.search.specs.declared.chain.Chain.{Chain}
 use Rattle.search.specs.declared.trail.Entry.{Entry}
 use Rattle.search.specs.Chains.{AreFalseOthers, IsAdded, IsBack, IsGathered, IsGoing, IsMarkedAt, IsReach, skips, without}

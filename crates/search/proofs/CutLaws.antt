@@ -7,7 +7,7 @@ use Rattle.std.proofs.lemmas.Bool.Decides.{Decides-eqb}
 use Rattle.std.proofs.lemmas.List.{length-drop, take_all}
 use Rattle.std.proofs.lemmas.Map.Keys.{IsDistinct-head, IsDistinct-tail}
 use Rattle.cnf.proofs.ClauseLaws.{same_literal}
-use Rattle.literal_marks.proofs.MarksLaws.{int_eq-sym}
+use Rattle.cnf.proofs.literal_marks.MarksLaws.{int_eq-sym}
 use Rattle.search.specs.declared.trail.Entry.{Entry}
 use Rattle.search.specs.Machine.{is_true}
 use Rattle.search.specs.Trails.{place, places}

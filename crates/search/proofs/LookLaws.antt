@@ -8,7 +8,7 @@ use Rattle.std.specs.Ordering.{int_eq}
 use Rattle.std.proofs.lemmas.List.{take_all}
 use Rattle.cnf.specs.Clauses.{IsClause, has_literal}
 use Rattle.cnf.proofs.ClauseLaws.{equal_literal, same_literal}
-use Rattle.literal_marks.proofs.MarksLaws.{has_literal-more}
+use Rattle.cnf.proofs.literal_marks.MarksLaws.{has_literal-more}
 use Rattle.search.specs.Machine.{is_conflict, unit_of}
 use Rattle.search.proofs.BackLaws.{or_behind, or_cases}
 use Rattle.search.proofs.LessonLaws.{lone_remains, nothing_false}

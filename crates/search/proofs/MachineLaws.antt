@@ -14,8 +14,8 @@ use Rattle.cnf.specs.Checks.{Checks, IsRight, IsRightAt, numbered}
 use Rattle.cnf.specs.Clauses.{has_literal, literal_key}
 use Rattle.cnf.specs.Formulas.{is_true_clause, is_true_literal}
 use Rattle.cnf.proofs.ClauseLaws.{equal_literal, same_literal}
-use Rattle.literal_marks.specs.Marks.{has_place}
-use Rattle.literal_marks.specs.declared.places.Places.TheVariants.{ByKey}
+use Rattle.cnf.specs.literal_marks.Marks.{has_place}
+use Rattle.cnf.specs.declared.literal_marks.places.Places.TheVariants.{ByKey}
 use Rattle.search.specs.declared.moves.Move.{Move}
 use Rattle.search.specs.declared.trail.Entry.{Entry}
 use Rattle.search.specs.Laws.{is_over}

@@ -8,7 +8,7 @@ use Rattle.cnf.specs.Checks.{numbered}
 use Rattle.cnf.specs.Clauses.{has_literal}
 use Rattle.cnf.specs.Resolution.{can_resolve, resolvent}
 use Rattle.cnf.proofs.ClauseLaws.{equal_literal, same_literal}
-use Rattle.literal_marks.proofs.MarksLaws.{has_literal-more}
+use Rattle.cnf.proofs.literal_marks.MarksLaws.{has_literal-more}
 use Rattle.search.specs.declared.chain.Chain.{Chain}
 use Rattle.search.specs.declared.trail.Entry.{Entry}
 use Rattle.search.specs.Chains.{AreFound, IsBack, IsGoing, IsMarkedAt, IsThinned, IsWider, skips, without}

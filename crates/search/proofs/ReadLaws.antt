@@ -14,7 +14,7 @@ use Rattle.cnf.specs.declared.derivation.Derivation.{Derivation}
 use Rattle.cnf.specs.declared.formula.Formula.{Formula}
 use Rattle.cnf.specs.Clauses.{has_literal}
 use Rattle.cnf.proofs.ClauseLaws.{equal_literal, same_literal}
-use Rattle.literal_marks.proofs.MarksLaws.{int_eq-sym}
+use Rattle.cnf.proofs.literal_marks.MarksLaws.{int_eq-sym}
 use Rattle.std.proofs.lemmas.List.Folds.{list_any-append}
 use Rattle.search.specs.declared.scan.Scan.TheVariants as scan
 use Rattle.search.specs.declared.trail.Entry.{Entry}

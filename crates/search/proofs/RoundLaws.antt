@@ -9,7 +9,7 @@ use Rattle.cnf.specs.declared.derivation.DerivationLine.{DerivationLine}
 use Rattle.cnf.specs.declared.formula.Formula.{Formula}
 use Rattle.cnf.specs.Clauses.{has_literal}
 use Rattle.cnf.proofs.ClauseLaws.{equal_literal}
-use Rattle.literal_marks.proofs.MarksLaws.{int_eq-sym}
+use Rattle.cnf.proofs.literal_marks.MarksLaws.{int_eq-sym}
 use Rattle.search.specs.declared.found.Found.{Found}
 use Rattle.search.specs.declared.found.Found.TheVariants as found
 use Rattle.search.specs.declared.landing.Landing.{Landing}

@@ -14,8 +14,8 @@ use Rattle.cnf.specs.Checks.{Checks, IsRight, numbered}
 use Rattle.cnf.specs.Clauses.{literal_key}
 use Rattle.cnf.specs.Formulas.{Satisfies}
 use Rattle.cnf.proofs.ClauseLaws.{same_key}
-use Rattle.literal_marks.specs.Marks.{IsClear, marked}
-use Rattle.literal_marks.specs.declared.places.Places.TheVariants.{ByKey}
+use Rattle.cnf.specs.literal_marks.Marks.{IsClear, marked}
+use Rattle.cnf.specs.declared.literal_marks.places.Places.TheVariants.{ByKey}
 use Rattle.search.specs.declared.machine.Machine.{Machine}
 use Rattle.search.specs.declared.moves.Move.{Move}
 use Rattle.search.specs.declared.moves.Move.TheVariants as move

@@ -11,8 +11,8 @@ use Rattle.cnf.specs.declared.formula.Formula.{Formula}
 use Rattle.cnf.specs.Checks.{numbered}
 use Rattle.cnf.specs.Clauses.{has_literal, literal_key}
 use Rattle.cnf.proofs.ClauseLaws.{equal_literal, same_literal}
-use Rattle.literal_marks.specs.Marks.{marked}
-use Rattle.literal_marks.specs.declared.places.Places.TheVariants.{ByKey}
+use Rattle.cnf.specs.literal_marks.Marks.{marked}
+use Rattle.cnf.specs.declared.literal_marks.places.Places.TheVariants.{ByKey}
 use Rattle.search.specs.declared.machine.Machine.{Machine}
 use Rattle.search.specs.declared.moves.Move.TheVariants as move
 use Rattle.fq_core.specs.declared.memory.Memory.{Memory}

@@ -2,8 +2,8 @@
 use Rattle.std.specs.Prelude.{◌≡◌, ℕ, ◌+◌, ◌*◌, ◌<◌, ◌≤◌, ◌^◌, ℤ, length}
 use Rattle.cnf.specs.declared.formula.Formula.{Formula}
 use Rattle.cnf.specs.Checks.{IsRightAt}
-use Rattle.literal_marks.specs.Marks.{IsClear, marked}
-use Rattle.literal_marks.specs.declared.places.Places.TheVariants.{ByKey}
+use Rattle.cnf.specs.literal_marks.Marks.{IsClear, marked}
+use Rattle.cnf.specs.declared.literal_marks.places.Places.TheVariants.{ByKey}
 use Rattle.search.specs.declared.machine.Machine.{Machine}
 use Rattle.search.specs.Machine.{Runs, first_state, is_true}
 use Rattle.search.specs.Nexts.{state_of}

@@ -5,8 +5,8 @@ ghost use Rattle.std.specs.Ordering.{int_eq};
 ghost use Rattle.cnf.specs.Checks.{numbered};
 ghost use Rattle.cnf.specs.Clauses.{IsLiteral, has_literal, literal_key as key_of};
 ghost use Rattle.cnf.specs.Resolution.{can_resolve, resolvent};
-ghost use Rattle.literal_marks.specs.Marks.{marked};
-ghost use Rattle.literal_marks.specs.declared.places.Places.TheVariants.{ByKey};
+ghost use Rattle.cnf.specs.literal_marks.Marks.{marked};
+ghost use Rattle.cnf.specs.declared.literal_marks.places.Places.TheVariants.{ByKey};
 ghost use Rattle.search.specs.Chains.{AreFalseOthers, IsAdded, IsBack, IsGoing, skips, without};
 ghost use Rattle.search.specs.Laws.{is_over};
 ghost use Rattle.search.specs.Machine.{is_true};
@@ -16,8 +16,8 @@ ghost use Rattle.search.specs.Watching.{IsDecidedAt};
 ghost use Rattle.search.specs.declared.trail.Entry.{Entry as EntryValue};
 
 use crate::trail::Entry;
+use cnf::literal_marks::{Places, is_marked, mark, unmark};
 use cnf::{Derivation, Formula, clause_before, literal_key, negation};
-use literal_marks::{Places, is_marked, mark, unmark};
 use std::alloc::AllocError;
 
 /// A clause that is resolved back along the trail, beside a table of marks of its literals, and the steps so far.

@@ -2,12 +2,12 @@
 ghost use Rattle.std.specs.Prelude.{◌≡◌, ◌≤◌, ◌<◌, ◌+◌, ◌-◌, ◌*◌, ◌^◌, ℕ, ℤ, pos, true, false, IfNone, IfOk, IfSome, length, slice_index_or};
 ghost use Rattle.std.specs.Int.RustNames.{unsigned_abs};
 ghost use Rattle.cnf.specs.Clauses.{literal_key};
-ghost use Rattle.literal_marks.specs.Marks.{marked};
-ghost use Rattle.literal_marks.specs.declared.places.Places.TheVariants.{ByKey};
+ghost use Rattle.cnf.specs.literal_marks.Marks.{marked};
+ghost use Rattle.cnf.specs.declared.literal_marks.places.Places.TheVariants.{ByKey};
 ghost use Rattle.search.specs.Machine.{IsOver, is_open};
 
+use cnf::literal_marks::{Places, is_marked};
 use fq_core::Memory;
-use literal_marks::{Places, is_marked};
 use std::alloc::Global;
 
 /// The negative literal of the lowest open variable behind the first `known` ones, of so many.

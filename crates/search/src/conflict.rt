@@ -2,8 +2,8 @@
 ghost use Rattle.std.specs.Prelude.{◌≡◌, ◌+◌, ◌*◌, ◌<◌, ◌≤◌, ◌^◌, ℕ, ℤ, List, None, Some, neg_ℤ, true, IfOk, IsSomeAnd, OnOk, length};
 ghost use Rattle.cnf.specs.Checks.{numbered};
 ghost use Rattle.cnf.specs.Clauses.{IsLiteral, has_literal, literal_key as key_of};
-ghost use Rattle.literal_marks.specs.Marks.{IsClear, marked};
-ghost use Rattle.literal_marks.specs.declared.places.Places.TheVariants.{ByKey};
+ghost use Rattle.cnf.specs.literal_marks.Marks.{IsClear, marked};
+ghost use Rattle.cnf.specs.declared.literal_marks.places.Places.TheVariants.{ByKey};
 ghost use Rattle.search.specs.Chains.{IsBack, IsGoing, IsLastDecision, IsReach};
 ghost use Rattle.search.specs.Lessons.{IsLesson};
 ghost use Rattle.search.specs.Machine.{is_conflict, is_true};
@@ -16,10 +16,10 @@ use crate::chain::{Chain, add_others, take_back};
 use crate::landing::{Landing, landing_of};
 use crate::minimizing::minimize;
 use crate::trail::Entry;
+use cnf::literal_marks::{Places, unmark_all};
 use cnf::{Clause, Derivation, DerivationLine, Formula, clause_before, literal_key, negation};
 use containers::Vector;
 use fq_core::Memory;
-use literal_marks::{Places, unmark_all};
 use std::alloc::{AllocError, Global};
 
 /// A line that follows from a conflict, and where the jump lands that learns it. There is none where the line's clause is

@@ -4,8 +4,8 @@
 ghost use Rattle.std.specs.Prelude.{◌≡◌};
 
 use crate::trail::Entry;
+use cnf::literal_marks::{Places, is_marked};
 use cnf::{Derivation, Formula, clause_before, literal_key};
-use literal_marks::{Places, is_marked};
 use std::alloc::{AllocError, Global};
 
 /// A marked clause, which the trail makes false.

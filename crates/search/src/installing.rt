@@ -8,8 +8,8 @@ use crate::reading::{Queue, Visit, imply};
 use crate::status::is_false;
 use crate::watching::{Pair, Watching, no_watchers, watch_pair};
 use cnf::Formula;
+use cnf::literal_marks::{Places, is_marked};
 use fq_core::Memory;
-use literal_marks::{Places, is_marked};
 use std::alloc::{AllocError, Global};
 
 /// Nothing is watched yet.

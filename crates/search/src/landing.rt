@@ -1,15 +1,15 @@
 // Where a jump lands.
 ghost use Rattle.std.specs.Prelude.{◌≡◌, ◌≤◌, ◌^◌, false, neg_ℤ, take};
-ghost use Rattle.literal_marks.specs.Marks.{marked};
-ghost use Rattle.literal_marks.specs.declared.places.Places.TheVariants.{ByKey};
+ghost use Rattle.cnf.specs.literal_marks.Marks.{marked};
+ghost use Rattle.cnf.specs.declared.literal_marks.places.Places.TheVariants.{ByKey};
 ghost use Rattle.search.specs.Lessons.{AreFalseBut, IsLanding};
 ghost use Rattle.search.specs.Machine.{is_true};
 ghost use Rattle.search.specs.Trails.{IsTrail};
 ghost use Rattle.search.specs.Watching.{IsDecidedAt};
 
 use crate::trail::Entry;
+use cnf::literal_marks::{Places, is_marked};
 use cnf::negation;
-use literal_marks::{Places, is_marked};
 
 /// The one literal of a learned clause that is open where the trail is cut, the place of the decided literal before which
 /// it is, and the literal of the clause that became false last but one, if it has two.

@@ -5,8 +5,8 @@ ghost use Rattle.std.specs.List.{IsDistinct};
 ghost use Rattle.std.specs.Ordering.{int_eq};
 ghost use Rattle.cnf.specs.Checks.{IsRight, numbered};
 ghost use Rattle.cnf.specs.Clauses.{IsLiteral, literal_key as key_of};
-ghost use Rattle.literal_marks.specs.Marks.{has_place, marked};
-ghost use Rattle.literal_marks.specs.declared.places.Places.TheVariants.{ByKey};
+ghost use Rattle.cnf.specs.literal_marks.Marks.{has_place, marked};
+ghost use Rattle.cnf.specs.declared.literal_marks.places.Places.TheVariants.{ByKey};
 ghost use Rattle.search.specs.At.{IsAt, IsSameBut, IsSameButMarks, IsSameButOrder};
 ghost use Rattle.search.specs.Laws.{IsFormula};
 ghost use Rattle.search.specs.Lessons.{IsLesson};
@@ -29,10 +29,10 @@ use crate::moves::Step;
 use crate::next::{Next, next_of};
 use crate::order::Order;
 use crate::trail::Entry;
+use cnf::literal_marks::{Places, mark, unmark};
 use cnf::{Derivation, DerivationLine, Formula, literal_key};
 use containers::Vector;
 use fq_core::Memory;
-use literal_marks::{Places, mark, unmark};
 use std::alloc::{AllocError, Global};
 
 /// The state of a search, and the moves that led to it.

@@ -3,16 +3,16 @@
 ghost use Rattle.std.specs.Prelude.{◌≡◌, ◌+◌, ◌*◌, ◌<◌, ◌≤◌, ◌^◌, ◌&&◌, ◌||◌, ℤ, List, filter, not, true, IfOk, OnOk, length};
 ghost use Rattle.std.specs.Ordering.{int_eq};
 ghost use Rattle.cnf.specs.Clauses.{IsLiteral, has_literal, literal_key as key_of};
-ghost use Rattle.literal_marks.specs.Marks.{marked};
-ghost use Rattle.literal_marks.specs.declared.places.Places.TheVariants.{ByKey};
+ghost use Rattle.cnf.specs.literal_marks.Marks.{marked};
+ghost use Rattle.cnf.specs.declared.literal_marks.places.Places.TheVariants.{ByKey};
 ghost use Rattle.search.specs.Chains.{IsBack, IsGoing, IsThinned, IsWider, skips};
 ghost use Rattle.search.specs.Sound.{IsSound, all_clauses};
 
 use crate::chain::{Chain, is_skipped};
 use crate::implied::{Falsified, implied_places};
 use crate::trail::Entry;
+use cnf::literal_marks::{Places, is_marked, mark, unmark};
 use cnf::{Derivation, Formula, clause_before, negation};
-use literal_marks::{Places, is_marked, mark, unmark};
 use std::alloc::{AllocError, Global};
 
 // Adds a literal that is false before the last decision.

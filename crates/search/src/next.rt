@@ -1,7 +1,7 @@
 // The next move.
 ghost use Rattle.std.specs.Prelude.{◌≡◌, ◌+◌, ◌*◌, ◌<◌, ◌≤◌, ◌^◌, ℤ, IfOk, length};
-ghost use Rattle.literal_marks.specs.Marks.{IsClear, marked};
-ghost use Rattle.literal_marks.specs.declared.places.Places.TheVariants.{ByKey};
+ghost use Rattle.cnf.specs.literal_marks.Marks.{IsClear, marked};
+ghost use Rattle.cnf.specs.declared.literal_marks.places.Places.TheVariants.{ByKey};
 ghost use Rattle.search.specs.Machine.{is_true};
 ghost use Rattle.search.specs.Nexts.{IsNext, state_of};
 ghost use Rattle.search.specs.Sound.{IsSound};

@@ -2,8 +2,8 @@
 ghost use Rattle.std.specs.Prelude.{◌≡◌, ◌+◌, ◌<◌, ◌≤◌, ◌^◌, Some, IfOk, IsSomeAnd, OnOk, length, neg_ℤ, true, slice_get, false};
 ghost use Rattle.std.specs.Ordering.{int_eq};
 ghost use Rattle.cnf.specs.Clauses.{has_literal, literal_key as key_of};
-ghost use Rattle.literal_marks.specs.Marks.{marked};
-ghost use Rattle.literal_marks.specs.declared.places.Places.TheVariants.{ByKey};
+ghost use Rattle.cnf.specs.literal_marks.Marks.{marked};
+ghost use Rattle.cnf.specs.declared.literal_marks.places.Places.TheVariants.{ByKey};
 ghost use Rattle.search.specs.At.{IsAt};
 ghost use Rattle.search.specs.Machine.{is_true, unit_of};
 ghost use Rattle.search.specs.Readings.{IsImplied, IsLiteralRead, IsQueue, IsRewatched, IsSearching, IsVisit, IsVisiting};
@@ -17,9 +17,9 @@ use crate::visit::{Look, look_at, partner};
 use crate::watching::{
     Pair, Watcher, Watching, add_watcher, remove_watcher, watcher_at, watcher_count,
 };
+use cnf::literal_marks::{Places, is_marked};
 use cnf::{Formula, clause_before, negation};
 use fq_core::Memory;
-use literal_marks::{Places, is_marked};
 use std::alloc::AllocError;
 
 /// What the visit of a watcher leads to.

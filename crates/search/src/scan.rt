@@ -1,8 +1,8 @@
 // What the clauses are.
 ghost use Rattle.std.specs.Prelude.{◌+◌, ◌<◌, ◌^◌, length};
 ghost use Rattle.cnf.specs.Checks.{clauses_before};
-ghost use Rattle.literal_marks.specs.Marks.{marked};
-ghost use Rattle.literal_marks.specs.declared.places.Places.TheVariants.{ByKey};
+ghost use Rattle.cnf.specs.literal_marks.Marks.{marked};
+ghost use Rattle.cnf.specs.declared.literal_marks.places.Places.TheVariants.{ByKey};
 ghost use Rattle.search.specs.Statuses.{IsScan};
 
 use crate::status::{Status, status_of};

@@ -1,12 +1,12 @@
 // What a clause is by the literals that are true, as a table of marks by key.
 ghost use Rattle.std.specs.Prelude.{◌≡◌, neg_ℤ};
 ghost use Rattle.cnf.specs.Clauses.{IsLiteral};
-ghost use Rattle.literal_marks.specs.Marks.{marked};
-ghost use Rattle.literal_marks.specs.declared.places.Places.TheVariants.{ByKey};
+ghost use Rattle.cnf.specs.literal_marks.Marks.{marked};
+ghost use Rattle.cnf.specs.declared.literal_marks.places.Places.TheVariants.{ByKey};
 ghost use Rattle.search.specs.Statuses.{IsStatus};
 
+use cnf::literal_marks::{Places, is_marked};
 use cnf::{Clause, negation};
-use literal_marks::{Places, is_marked};
 
 /// What a clause is: false, with one open literal while its others are false, or neither.
 #[derive(Clone, Copy)]

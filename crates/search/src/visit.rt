@@ -2,14 +2,14 @@
 ghost use Rattle.std.specs.Prelude.{◌≡◌, ℤ, neg_ℤ, true, false, IfNone, IfSome, if◌then◌else◌};
 ghost use Rattle.std.specs.Ordering.{int_eq};
 ghost use Rattle.cnf.specs.Clauses.{IsClause, IsLiteral, has_literal};
-ghost use Rattle.literal_marks.specs.Marks.{marked};
-ghost use Rattle.literal_marks.specs.declared.places.Places.TheVariants.{ByKey};
+ghost use Rattle.cnf.specs.literal_marks.Marks.{marked};
+ghost use Rattle.cnf.specs.declared.literal_marks.places.Places.TheVariants.{ByKey};
 ghost use Rattle.search.specs.Visits.{IsLook, partner_of};
 
 use crate::status::is_false;
 use crate::watching::Pair;
 use cnf::Clause;
-use literal_marks::{Places, is_marked};
+use cnf::literal_marks::{Places, is_marked};
 
 /// What becomes of a clause one of whose watched literals is false.
 #[derive(Clone, Copy)]

@@ -18,14 +18,14 @@ use Rattle.goals.specs.GoalForm.{GoalForm}
 use Rattle.goals.specs.declared.answer.Answer.{Answer}
 use Rattle.goals.specs.declared.answer.Answer.TheVariants.{Covered, Missed, Refuted, Undecided}
 use Rattle.goals.specs.declared.plan.Plan.{Plan}
-use Rattle.hits.specs.Hits.{Hits, HitsNumber}
-use Rattle.hits.specs.Inputs.{InputHits, InputHitsWithin}
+use Rattle.measurer_hits.specs.hits.Hits.{Hits, HitsNumber}
+use Rattle.measurer_hits.specs.hits.Inputs.{InputHits, InputHitsWithin}
 use Rattle.measurer.specs.Firsts.{first_hit, has_number}
 use Rattle.path_runner.specs.Paths.{record_of}
-use Rattle.reached.specs.declared.bounds.Bounds.{Bounds}
+use Rattle.unwinder_reach.specs.declared.reached.bounds.Bounds.{Bounds}
 use Rattle.suite.specs.Generated.{AreAnswered, IsAnswer, IsCovered, IsMeasuredInput, IsShown, NoEarlierHits, Shown, seen_also, undecided_from}
 use Rattle.suite.specs.Progress.{AddsInput, AllAnswered, AnswersMore, IsNext, Tried, nothing}
-use Rattle.given.specs.declared.generated.Generated.{Generated}
+use Rattle.suite_problem.specs.declared.generated.Generated.{Generated}
 use Rattle.suite.proofs.Firsts.{any_contains, contains_any, found, missing, none_at, rises_further, there_at}
 
 -- ---- undecided goals

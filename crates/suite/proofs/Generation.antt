@@ -8,12 +8,12 @@ use Rattle.fq_core.specs.declared.refusal.Fault.{Fault}
 use Rattle.fq_core.specs.declared.refusal.Fault.TheVariants as fault
 use Rattle.goal_formula.specs.Sizes.{goal_size}
 use Rattle.goals.specs.declared.plan.Plan.{Plan}
-use Rattle.reached.specs.declared.bounds.Bounds.{Bounds}
+use Rattle.unwinder_reach.specs.declared.reached.bounds.Bounds.{Bounds}
 use Rattle.unwinder.specs.Unwinding.{IsUnwound}
 use Rattle.unwinder.specs.declared.unwound.Unwound.{Unwound}
 use Rattle.suite.specs.Generated.{IsGenerateFault, IsGenerated, Shown, seen_also}
 use Rattle.suite.specs.Progress.{AllAnswered, AreSmall, IsSizeFault}
-use Rattle.given.specs.declared.generated.Generated.{Generated}
+use Rattle.suite_problem.specs.declared.generated.Generated.{Generated}
 
 module _ (parts : GraphParts) (f : Function) (p : Predicates) (plan : Plan) (entry : ℕ) (bounds : Bounds) (ends : Ends) (u : Unwound) (h : IsUnwound parts p f entry bounds ends u) where
   -- a goal that is too large over the unwinding

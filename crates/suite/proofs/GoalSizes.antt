@@ -11,7 +11,7 @@ use Rattle.fq_core.specs.declared.refusal.Fault.TheVariants as fault
 use Rattle.goal_formula.specs.Sizes.{IsFormulaFault, goal_size}
 use Rattle.goals.specs.GoalForm.{GoalForm}
 use Rattle.goals.specs.declared.plan.Plan.{Plan}
-use Rattle.reached.specs.declared.bounds.Bounds.{Bounds}
+use Rattle.unwinder_reach.specs.declared.reached.bounds.Bounds.{Bounds}
 use Rattle.unwinder.specs.Unwinding.{IsUnwindFault, IsUnwound}
 use Rattle.unwinder.specs.declared.unwound.Unwound.{Unwound}
 use Rattle.suite.specs.OneGoal.{IsGoalRefused, IsGoalTooLarge, IsGoalWithin}

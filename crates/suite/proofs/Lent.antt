@@ -13,8 +13,8 @@ use Rattle.goal_formula.specs.Exact.{IsExact}
 use Rattle.goal_formula.specs.declared.goal.GoalFormula.{GoalFormula}
 use Rattle.goals.specs.GoalForm.{GoalForm}
 use Rattle.goals.specs.declared.plan.Plan.{Plan}
-use Rattle.lessons.specs.Giving.{SaysTheSame}
-use Rattle.reached.specs.declared.bounds.Bounds.{Bounds}
+use Rattle.search_lemmas.specs.Giving.{SaysTheSame}
+use Rattle.unwinder_reach.specs.declared.reached.bounds.Bounds.{Bounds}
 use Rattle.search.specs.Nexts.{IsModel}
 use Rattle.suite.specs.Made.{NoneHits}
 

@@ -29,14 +29,14 @@ use Rattle.goal_formula.specs.Exact.{IsExact}
 use Rattle.goal_formula.specs.declared.goal.GoalFormula.{GoalFormula}
 use Rattle.goals.specs.GoalForm.{GoalForm}
 use Rattle.goals.specs.declared.plan.Plan.{Plan}
-use Rattle.hits.specs.Hits.{Hits, path_in}
-use Rattle.hits.specs.Inputs.{InputHitsWithin}
-use Rattle.input_words.specs.Worlds.{world_of}
+use Rattle.measurer_hits.specs.hits.Hits.{Hits, path_in}
+use Rattle.measurer_hits.specs.hits.Inputs.{InputHitsWithin}
+use Rattle.unwinder.specs.input_words.Worlds.{world_of}
 use Rattle.path_runner.proofs.Records.{runs_recorded}
 use Rattle.path_runner.specs.Masks.{mask_of}
 use Rattle.path_runner.specs.Paths.{path_of, record_of}
 use Rattle.path_runner.specs.declared.path.PathRecord.{PathRecord}
-use Rattle.reached.specs.declared.bounds.Bounds.{Bounds}
+use Rattle.unwinder_reach.specs.declared.reached.bounds.Bounds.{Bounds}
 use Rattle.search.specs.Nexts.{IsModel}
 use Rattle.unwinder.proofs.Made.{parameter_kinds}
 use Rattle.unwinder.specs.Lists.{IsInputFor, ListsRuns, Tells, after_move, entries_in, reached_in}

@@ -8,8 +8,8 @@ use Rattle.c_meaning.specs.Starts.{start_of}
 use Rattle.c_meaning.specs.declared.input.Input.{Input}
 use Rattle.c_values.specs.Kind.{IsValue}
 use Rattle.c_values.specs.declared.kinds.Kind.{Kind}
-use Rattle.candidates.specs.Row.{IsCandidate}
-use Rattle.candidates.specs.Within.{AreEdgesWithin}
+use Rattle.suite.specs.candidates.Row.{IsCandidate}
+use Rattle.suite.specs.candidates.Within.{AreEdgesWithin}
 use Rattle.cfa.proofs.Exits.{taken}
 use Rattle.cfa.specs.Graph.{IsGraph}
 use Rattle.cfa.specs.declared.parts.Function.{Function}
@@ -18,14 +18,14 @@ use Rattle.cfa.specs.declared.state.Predicates.{Predicates}
 use Rattle.c_meaning.specs.declared.ends.Ends.{Ends}
 use Rattle.goals.specs.GoalForm.{GoalForm}
 use Rattle.goals.specs.declared.plan.Plan.{Plan}
-use Rattle.hits.specs.Hits.{AreHits, Hits}
+use Rattle.measurer_hits.specs.hits.Hits.{AreHits, Hits}
 use Rattle.measurer.specs.Firsts.{first_hit, has_number}
 use Rattle.measurer.specs.Measurers.{hits_of}
 use Rattle.path_runner.proofs.Records.{paths_counted}
 use Rattle.path_runner.specs.Counted.{counts_end}
 use Rattle.path_runner.specs.Paths.{path_of, record_of}
 use Rattle.path_runner.specs.declared.path.PathRecord.{PathRecord}
-use Rattle.reached.specs.declared.bounds.Bounds.{Bounds}
+use Rattle.unwinder_reach.specs.declared.reached.bounds.Bounds.{Bounds}
 use Rattle.suite.specs.Made.{IsMade, IsMadeFor}
 use Rattle.suite.specs.Pool.{IsPool, IsPooled}
 use Rattle.suite.specs.declared.pool.Pool.{Pool}

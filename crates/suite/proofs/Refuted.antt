@@ -10,7 +10,7 @@ use Rattle.goal_formula.specs.Exact.{IsExact}
 use Rattle.goal_formula.specs.declared.goal.GoalFormula.{GoalFormula}
 use Rattle.goals.specs.GoalForm.{GoalForm}
 use Rattle.goals.specs.declared.plan.Plan.{Plan}
-use Rattle.reached.specs.declared.bounds.Bounds.{Bounds}
+use Rattle.unwinder_reach.specs.declared.reached.bounds.Bounds.{Bounds}
 use Rattle.suite.specs.Made.{NoneHits}
 
 pub none_hits : (parts : GraphParts) (f : Function) (p : Predicates) (plan : Plan) (bounds : Bounds) (ends : Ends) (goal : GoalForm) (g : GoalFormula) (derivation : Derivation)

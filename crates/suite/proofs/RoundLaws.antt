@@ -1,6 +1,6 @@
 -- One goal after another of the same.
 use Rattle.std.proofs.Common.{◌≡◌, ◌∙◌, ◌+◌, ◌-◌, ◌<◌, ℕ, ap, length, subst, sym, arith}
-use Rattle.given.specs.declared.given.Given.{Given}
+use Rattle.suite_problem.specs.declared.given.Given.{Given}
 use Rattle.suite.specs.Progress.{AreSmall}
 use Rattle.suite.specs.Seeking.{CanTurn, IsOfSame, IsTurned, Seeking}
 

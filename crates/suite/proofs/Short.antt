@@ -14,14 +14,14 @@ use Rattle.goals.specs.GoalForm.{GoalForm}
 use Rattle.goals.specs.declared.answer.Answer.{Answer}
 use Rattle.goals.specs.declared.answer.Answer.TheVariants as answer
 use Rattle.goals.specs.declared.plan.Plan.{Plan}
-use Rattle.reached.specs.declared.bounds.Bounds.{Bounds}
+use Rattle.unwinder_reach.specs.declared.reached.bounds.Bounds.{Bounds}
 use Rattle.search.proofs.HistoryLaws.{histories_end_law}
 use Rattle.search.specs.declared.moves.History.{History}
 use Rattle.suite.specs.Generated.{IsGenerated, Shown, undecided_from}
 use Rattle.suite.specs.Made.{FallsShort, IsDecided, IsOpenWhereShort, IsSpent}
 use Rattle.suite.specs.declared.decided.Decided.{Decided}
 use Rattle.suite.specs.declared.decided.Decided.TheVariants as decided
-use Rattle.given.specs.declared.generated.Generated.{Generated}
+use Rattle.suite_problem.specs.declared.generated.Generated.{Generated}
 
 -- ---- the numbers of undecided goals
 

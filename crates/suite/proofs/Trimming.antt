@@ -27,7 +27,7 @@ use Rattle.cfa.specs.declared.state.Predicates.{Predicates}
 use Rattle.cfa.specs.declared.state.State.{State}
 use Rattle.path_runner.specs.Masks.{mask_of}
 use Rattle.path_runner.specs.Paths.{answer_along, answer_at, answer_by, answer_on, answer_read, end_at, record_of}
-use Rattle.run_laws.proofs.Nexts.{ReadsAlike, next_goes, next_stops, next_takes}
+use Rattle.measurer_hits.proofs.run_laws.Nexts.{ReadsAlike, next_goes, next_stops, next_takes}
 
 abbrev Taken : Type 0
 Taken = Kind × ℕ

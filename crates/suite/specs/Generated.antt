@@ -21,17 +21,17 @@ use Rattle.goals.specs.GoalForm.{GoalForm}
 use Rattle.goals.specs.declared.answer.Answer.{Answer}
 use Rattle.goals.specs.declared.answer.Answer.TheVariants.{Covered, Missed, Refuted, Undecided}
 use Rattle.goals.specs.declared.plan.Plan.{Plan}
-use Rattle.hits.specs.Hits.{AreHits}
-use Rattle.hits.specs.Inputs.{InputHits, InputHitsWithin}
+use Rattle.measurer_hits.specs.hits.Hits.{AreHits}
+use Rattle.measurer_hits.specs.hits.Inputs.{InputHits, InputHitsWithin}
 use Rattle.path_runner.specs.Paths.{record_of}
-use Rattle.reached.specs.Reaching.{AreReached}
-use Rattle.reached.specs.declared.bounds.Bounds.{Bounds}
-use Rattle.reached.specs.declared.step.Step.{Step}
+use Rattle.unwinder_reach.specs.reached.Reaching.{AreReached}
+use Rattle.unwinder_reach.specs.declared.reached.bounds.Bounds.{Bounds}
+use Rattle.unwinder_reach.specs.declared.reached.step.Step.{Step}
 use Rattle.search.specs.declared.moves.History.{History}
 use Rattle.unwinder.specs.Unwinding.{IsUnwindFault}
-use Rattle.unwinding_size.specs.Sizes.{size_sum}
+use Rattle.unwinder_reach.specs.unwinding_size.Sizes.{size_sum}
 use Rattle.suite.specs.Made.{IsMade, IsSpent, NoneHits}
-use Rattle.given.specs.declared.generated.Generated.{Generated}
+use Rattle.suite_problem.specs.declared.generated.Generated.{Generated}
 
 -- a goal's number with the formula and the history of its search
 abbrev pub Shown : Type 0

@@ -1,7 +1,7 @@
 -- A run of what is given that was recorded counts, and is within the bounds.
 use Rattle.std.specs.Prelude.{IsTrue}
-use Rattle.candidates.specs.Within.{AreEdgesWithin}
-use Rattle.given.specs.declared.given.Given.{Given}
+use Rattle.suite.specs.candidates.Within.{AreEdgesWithin}
+use Rattle.suite_problem.specs.declared.given.Given.{Given}
 use Rattle.path_runner.specs.Counted.{counts_end}
 use Rattle.path_runner.specs.declared.path.PathRecord.{PathRecord}
 

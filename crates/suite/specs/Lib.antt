@@ -7,3 +7,4 @@ pub mod Progress
 pub mod Seeking
 pub mod Standing
 pub mod Told
+pub mod candidates

@@ -17,12 +17,12 @@ use Rattle.cnf.specs.declared.formula.Formula.{Formula}
 use Rattle.goal_formula.specs.Exact.{IsExact, most_variables}
 use Rattle.goals.specs.GoalForm.{GoalForm}
 use Rattle.goals.specs.declared.plan.Plan.{Plan}
-use Rattle.hits.specs.Hits.{Hits}
-use Rattle.hits.specs.Inputs.{InputHitsWithin}
+use Rattle.measurer_hits.specs.hits.Hits.{Hits}
+use Rattle.measurer_hits.specs.hits.Inputs.{InputHitsWithin}
 use Rattle.path_runner.specs.Paths.{record_of}
-use Rattle.reached.specs.Reaching.{AreReached}
-use Rattle.reached.specs.declared.bounds.Bounds.{Bounds}
-use Rattle.reached.specs.declared.step.Step.{Step}
+use Rattle.unwinder_reach.specs.reached.Reaching.{AreReached}
+use Rattle.unwinder_reach.specs.declared.reached.bounds.Bounds.{Bounds}
+use Rattle.unwinder_reach.specs.declared.reached.step.Step.{Step}
 use Rattle.search.specs.Nexts.{IsFound, IsRefutation}
 use Rattle.search.specs.declared.found.Found.TheVariants.{Spent}
 use Rattle.search.specs.declared.moves.History.{History}

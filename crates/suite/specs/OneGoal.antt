@@ -11,11 +11,11 @@ use Rattle.fq_core.specs.declared.refusal.Refusal.{Refusal}
 use Rattle.goal_formula.specs.Sizes.{goal_size}
 use Rattle.goals.specs.GoalForm.{GoalForm}
 use Rattle.goals.specs.declared.plan.Plan.{Plan}
-use Rattle.reached.specs.Reaching.{AreReached}
-use Rattle.reached.specs.declared.bounds.Bounds.{Bounds}
-use Rattle.reached.specs.declared.step.Step.{Step}
+use Rattle.unwinder_reach.specs.reached.Reaching.{AreReached}
+use Rattle.unwinder_reach.specs.declared.reached.bounds.Bounds.{Bounds}
+use Rattle.unwinder_reach.specs.declared.reached.step.Step.{Step}
 use Rattle.unwinder.specs.Unwinding.{IsUnwindFault}
-use Rattle.unwinding_size.specs.Sizes.{size_sum}
+use Rattle.unwinder_reach.specs.unwinding_size.Sizes.{size_sum}
 
 module _ (parts : GraphParts) (f : Function) (p : Predicates) (plan : Plan) (bounds : Bounds) (goal : GoalForm) where
   -- The pairs that are reached within the bounds, their size sum and the goal's size are within their limits.

@@ -9,10 +9,10 @@ use Rattle.cfa.specs.declared.parts.GraphParts.{GraphParts}
 use Rattle.cfa.specs.declared.state.Predicates.{Predicates}
 use Rattle.goals.specs.GoalForm.{GoalForm}
 use Rattle.goals.specs.declared.plan.Plan.{Plan}
-use Rattle.hits.specs.Hits.{AreHits}
+use Rattle.measurer_hits.specs.hits.Hits.{AreHits}
 use Rattle.measurer.specs.Measurers.{IsMadeFor as MeasuresFor, hits_of}
 use Rattle.path_runner.specs.Paths.{record_of}
-use Rattle.reached.specs.declared.bounds.Bounds.{Bounds}
+use Rattle.unwinder_reach.specs.declared.reached.bounds.Bounds.{Bounds}
 use Rattle.suite.specs.Made.{IsMade, IsMadeFor, NoneHits}
 use Rattle.suite.specs.declared.pool.Pool.{Pool}
 

@@ -15,14 +15,14 @@ use Rattle.goals.specs.GoalForm.{GoalForm}
 use Rattle.goals.specs.declared.answer.Answer.{Answer}
 use Rattle.goals.specs.declared.answer.Answer.TheVariants.{Covered, Missed, Refuted, Undecided}
 use Rattle.goals.specs.declared.plan.Plan.{Plan}
-use Rattle.hits.specs.Hits.{AreHits, Hits}
+use Rattle.measurer_hits.specs.hits.Hits.{AreHits, Hits}
 use Rattle.measurer.specs.Firsts.{first_hit}
 use Rattle.measurer.specs.Measurers.{hits_of}
 use Rattle.path_runner.specs.Paths.{record_of}
-use Rattle.reached.specs.declared.bounds.Bounds.{Bounds}
+use Rattle.unwinder_reach.specs.declared.reached.bounds.Bounds.{Bounds}
 use Rattle.suite.specs.Generated.{AreAnswered, IsShown, Shown, seen_also}
 use Rattle.suite.specs.Made.{IsMade, NoneHits}
-use Rattle.given.specs.declared.generated.Generated.{Generated}
+use Rattle.suite_problem.specs.declared.generated.Generated.{Generated}
 use Rattle.suite.specs.declared.making.Making.{Making}
 
 -- no goal is too large over so many pairs

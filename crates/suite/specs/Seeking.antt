@@ -6,8 +6,8 @@ use Rattle.cfa.specs.declared.parts.Function.{Function}
 use Rattle.cfa.specs.declared.parts.GraphParts.{GraphParts}
 use Rattle.fq_core.specs.declared.refusal.Fault.{Fault}
 use Rattle.fq_core.specs.declared.refusal.Refusal.{Refusal}
-use Rattle.given.specs.declared.given.Given.{Given}
-use Rattle.given.specs.declared.goal.Goal.{Goal}
+use Rattle.suite_problem.specs.declared.given.Given.{Given}
+use Rattle.suite_problem.specs.declared.goal.Goal.{Goal}
 use Rattle.goal_formula.specs.Exact.{IsExact}
 use Rattle.goal_formula.specs.Sizes.{goal_size}
 use Rattle.goal_formula.specs.declared.goal.GoalFormula.{GoalFormula}
@@ -23,7 +23,7 @@ use Rattle.suite.specs.Made.{FallsShort, HasRunWithin, IsDecided, IsMadeFor, IsO
 use Rattle.suite.specs.OneGoal.{IsGoalRefused, IsGoalWithin}
 use Rattle.suite.specs.Progress.{AddsInput, AllAnswered, IsNext}
 use Rattle.suite.specs.declared.decided.Decided.{Decided}
-use Rattle.given.specs.declared.generated.Generated.{Generated}
+use Rattle.suite_problem.specs.declared.generated.Generated.{Generated}
 
 -- a goal of what is given, and how many pairs of node and context are reached within the bounds
 pub record Seeking : Type 0 where

@@ -1,10 +1,10 @@
 -- What holds where a goal is sought.
 use Rattle.std.specs.Prelude.{List, ℕ}
 use Rattle.c_meaning.specs.declared.input.Input.{Input}
-use Rattle.given.specs.declared.given.Given.{Given}
-use Rattle.given.specs.declared.goal.Goal.{Goal}
-use Rattle.lessons.specs.Store.{Hold}
-use Rattle.lessons.specs.declared.lesson.Lessons.{Lessons}
+use Rattle.suite_problem.specs.declared.given.Given.{Given}
+use Rattle.suite_problem.specs.declared.goal.Goal.{Goal}
+use Rattle.search_lemmas.specs.Store.{Hold}
+use Rattle.search_lemmas.specs.declared.lesson.Lessons.{Lessons}
 use Rattle.unwinder.specs.declared.unwound.Unwound.{Unwound}
 use Rattle.suite.specs.Pool.{IsPool, IsPooled}
 use Rattle.suite.specs.Seeking.{IsSmall, IsUnwindingOf}

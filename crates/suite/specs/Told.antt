@@ -1,5 +1,5 @@
 -- What lessons tell of a goal.
-use Rattle.given.specs.declared.goal.Goal.{Goal}
+use Rattle.suite_problem.specs.declared.goal.Goal.{Goal}
 use Rattle.suite.specs.Seeking.{IsMadeFrom, IsNoneFrom}
 use Rattle.suite.specs.declared.by_lessons.Told.{Told}
 use Rattle.suite.specs.declared.by_lessons.Told.TheVariants.{Covered, Refuted, Open}

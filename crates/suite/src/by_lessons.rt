@@ -1,6 +1,6 @@
 // What lessons of other goals tell of a goal.
 ghost use Rattle.std.specs.Prelude.{◌≡◌, ℕ, IfOk};
-ghost use Rattle.lessons.specs.Giving.{SaysTheSame};
+ghost use Rattle.search_lemmas.specs.Giving.{SaysTheSame};
 ghost use Rattle.search.specs.Nexts.{IsEnd};
 ghost use Rattle.suite.specs.Seeking.{IsFormulaFor};
 ghost use Rattle.suite.specs.Told.{IsTold};
@@ -8,11 +8,11 @@ ghost use Rattle.suite.specs.Told.{IsTold};
 use crate::deciding::made_input;
 use crate::sought::Sought;
 use c_meaning::Input;
-use confirmation::confirm;
 use fq_core::Memory;
 use goal_formula::GoalFormula;
-use lessons::{Given, Refutation};
 use search::{Found, search_lowest_part};
+use search_checked::confirm;
+use search_lemmas::{Given, Refutation};
 use std::alloc::Global;
 
 /// What is told of a goal by lessons.

@@ -9,10 +9,10 @@ use crate::pool::{LATER, LEAST, first_count, first_edges, first_patience, values
 use crate::sought::Sought;
 use c_meaning::Input;
 use cnf::Formula;
-use confirmation::{Outcome, confirmed};
 use fq_core::Memory;
 use goal_formula::{GoalFormula, input_of};
 use search::{Found, search, search_ends, search_highest_part, search_lowest_part, search_whole};
+use search_checked::{Outcome, confirmed};
 use std::alloc::Global;
 
 /// The input of a model of a goal's formula, with the answers alone that its run reads, each as a value of the kind as which

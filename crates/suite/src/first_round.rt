@@ -9,7 +9,7 @@ use crate::deciding::{found_by_parts, found_late};
 use crate::pool::LEAST;
 use crate::sought::Sought;
 use fq_core::Memory;
-use lessons::Refutation;
+use search_lemmas::Refutation;
 use std::alloc::Global;
 
 /// A round over all goals.

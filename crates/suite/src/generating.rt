@@ -14,11 +14,11 @@ use crate::making::{Making, nothing_made};
 use crate::sought::{Sought, too_large, unwinding};
 use c_meaning::Input;
 use fq_core::{Fault, Memory};
-use given::{Generated, Given, Goal};
 use goal_formula::is_goal_too_large;
 use goals::{Answer, Plan};
 use search::Watch;
 use std::alloc::Global;
+use suite_problem::{Generated, Given, Goal};
 
 /// Tests the sizes of all goals over so many pairs of node and context.
 fn test_sizes(alloc: Global, plan: &Plan, pairs: u32) -> Result<(), Fault>

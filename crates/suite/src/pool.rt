@@ -3,15 +3,15 @@ ghost use Rattle.std.specs.Prelude.{◌≡◌, ◌-◌, ℕ, List, IfOk, IfSome,
 ghost use Rattle.c_values.specs.declared.kinds.Kind.{Kind as OneKind};
 ghost use Rattle.suite.specs.Inside.{IsProper};
 
+use crate::candidates::{Candidates, is_within};
 use c_meaning::Input;
 use c_values::Kind;
-use candidates::{Candidates, is_within};
 use containers::{TryClone, Vector};
 use fq_core::Memory;
-use given::Given;
 use measurer::Measurer;
 use path_runner::{PathRecord, trace_run};
 use std::alloc::{AllocError, Global};
+use suite_problem::Given;
 
 /// Inputs that are run beside the search of goals: of the candidates that were tried those whose runs count and are within the
 /// bounds, with the answers alone that these read, what early searches made, and the goals that they hit.
@@ -108,7 +108,7 @@ fn fruitless_after(measurer: &Measurer, fruitless: u64) -> u64 {
 impl Pool {
     ghost use Rattle.std.specs.Prelude.{◌≡◌, ◌+◌, ◌<◌, ◌^◌, List, ℕ, IfOk, IfSome, IsTrue};
     ghost use Rattle.patterns.specs.Paths.{IsPath};
-    ghost use Rattle.hits.specs.Hits.{AreHits, path_in};
+    ghost use Rattle.measurer_hits.specs.hits.Hits.{AreHits, path_in};
     ghost use Rattle.suite.specs.Pool.{IsForGoal, IsNoneFor, IsNoted};
     ghost use Rattle.suite.specs.Standing.{IsPoolOf, IsPooledOf};
 

@@ -4,19 +4,19 @@ ghost use Rattle.fq_core.specs.Refusals.{IfRefused, refusal};
 ghost use Rattle.fq_core.specs.declared.refusal.Place.TheVariants as place;
 ghost use Rattle.goal_formula.specs.Forms.{HasWorlds};
 ghost use Rattle.goals.specs.GoalForm.{GoalForm};
-ghost use Rattle.lessons.specs.Giving.{SaysTheSame};
-ghost use Rattle.lessons.specs.Known.{IsRight};
+ghost use Rattle.search_lemmas.specs.Giving.{SaysTheSame};
+ghost use Rattle.search_lemmas.specs.Known.{IsRight};
 ghost use Rattle.suite.specs.Seeking.{CanTurn, CannotUnwind, HasRun, IsFormulaFor, IsMadeAs, IsMadeFrom, IsNoneFrom, IsRecordOf, IsRefused, IsSmall, IsTurned, IsUnwindingOf, IsWithin};
 
 use crate::pool::Pool;
 use c_meaning::Input;
 use fq_core::{Fault, Memory, Place, Refusal};
-use given::{Given, Goal};
 use goal_formula::{GoalFormula, formula, is_goal_too_large};
-use lessons::{Given as WithLessons, Lessons, Refutation};
 use path_runner::{PathRecord, trace_run};
+use search_lemmas::{Given as WithLessons, Lessons, Refutation};
 use std::alloc::Global;
 use std::marker::Model;
+use suite_problem::{Given, Goal};
 use unwinder::{Unwound, unwind};
 
 /// A goal that is sought: the unwinding of what is given, and the inputs that are run beside the search.

@@ -1,2 +1,3 @@
 pub mod Stores
 pub mod Weights
+pub mod sym_steps

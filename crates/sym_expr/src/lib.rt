@@ -6,6 +6,10 @@
 //! names a cell; in every world the cells are then what an assignment makes of them. The wires used are at most 31 per
 //! unit of the weight of the expression or the place, which specs/Weights.antt defines. It stands on `bit_words` for the operations on words, on `cfa` for expressions and their values, and on
 //! `circuit`. Start at translation.rt.
+//!
+//! It has these modules too:
+//!
+//! - [`sym_steps`]: Symbolic steps.
 #![tactic(auto)]
 
 mod conditions;
@@ -13,6 +17,7 @@ mod elements;
 mod operators;
 mod patterns;
 mod store;
+pub mod sym_steps;
 mod translation;
 mod writes;
 

@@ -3,7 +3,7 @@ ghost use Rattle.std.specs.Prelude.{◌≡◌, ◌<◌, IsTrue, OnOk, length, sl
 
 use bit_words::Word;
 use circuit::Lit;
-use shared_tables::Table;
+use containers::shared_tables::Table;
 use std::alloc::AllocError;
 
 /// The cells of a state as words of bits: those of the globals, and then those of each frame.

@@ -2,4 +2,6 @@
 #![tactic(auto)]
 
 #[cfg(test)]
+mod sym_steps_tests;
+#[cfg(test)]
 mod tests;

@@ -9,7 +9,7 @@ use bit_words::{Word, extended};
 use cfa::{Expr, Frame, FunctionRoom, checked_kind};
 use circuit::{Circuit, Lit, Memory};
 use containers::Vector;
-use shared_tables::Table;
+use containers::shared_tables::Table;
 use std::alloc::Global;
 use sym_expr::{SymStore, put, translate};
 use test_words::free_word;

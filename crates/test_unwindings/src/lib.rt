@@ -10,9 +10,9 @@ ghost use Rattle.unwinder.specs.Unwinding.{IsUnwound};
 use c_meaning::Ends;
 use cfa::{Graph, Predicates};
 use fq_core::Fault;
-use reached::Bounds;
 use std::alloc::Global;
 use unwinder::{Unwound, unwind};
+use unwinder_reach::reached::Bounds;
 
 /// The function `f`, where it has no array parameters.
 pub fn entry_of(graph: &Graph) -> Option<u32>

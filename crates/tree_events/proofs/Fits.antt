@@ -8,13 +8,13 @@ use Rattle.c_values.specs.declared.operators.BinaryOp.{BinaryOp}
 use Rattle.c_values.specs.declared.operators.UnaryOp.{UnaryOp}
 use Rattle.cfa.specs.Kinds.{same_kind}
 use Rattle.cfa.specs.declared.parts.Variable.{Variable}
-use Rattle.typed_trees.specs.declared.expression.TypedCall.{TypedCall, roll-TypedCall}
-use Rattle.typed_trees.specs.declared.expression.TypedExpr.{TypedExpr, roll-TypedExpr}
-use Rattle.typed_trees.specs.declared.expression.TypedExprForm.{TypedExprForm, fold-TypedExprForm, roll-TypedExprForm, the_lemmas}
-use Rattle.typed_trees.specs.declared.expression.TypedExprForm.TheOpen.{TypedCall-F, TypedExpr-F, TypedExprForm-F}
-use Rattle.typed_trees.specs.declared.expression.TypedPlace.{TypedPlace, roll-TypedPlace}
-use Rattle.typed_trees.specs.Fitting.{Nameable, Fit, CallFit, span_fits, is_cell, is_integer, is_array, operands_meet, gives, in_cell, callee_fits, expression_fit, place_fits, call_fit}
-use Rattle.typed_trees.specs.Fitting as fitting
+use Rattle.c_typed_trees.specs.declared.expression.TypedCall.{TypedCall, roll-TypedCall}
+use Rattle.c_typed_trees.specs.declared.expression.TypedExpr.{TypedExpr, roll-TypedExpr}
+use Rattle.c_typed_trees.specs.declared.expression.TypedExprForm.{TypedExprForm, fold-TypedExprForm, roll-TypedExprForm, the_lemmas}
+use Rattle.c_typed_trees.specs.declared.expression.TypedExprForm.TheOpen.{TypedCall-F, TypedExpr-F, TypedExprForm-F}
+use Rattle.c_typed_trees.specs.declared.expression.TypedPlace.{TypedPlace, roll-TypedPlace}
+use Rattle.c_typed_trees.specs.Fitting.{Nameable, Fit, CallFit, span_fits, is_cell, is_integer, is_array, operands_meet, gives, in_cell, callee_fits, expression_fit, place_fits, call_fit}
+use Rattle.c_typed_trees.specs.Fitting as fitting
 
 unfoldable pub form_fits : Nameable → TypedExprForm → Kind → Bool
 form_fits n = fold-TypedExprForm (Kind → Bool) CallFit Fit Bool (fitting.form_step n) (fitting.call_step n) (fitting.expr_step n) (fitting.place_step n)

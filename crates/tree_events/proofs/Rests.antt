@@ -2,9 +2,9 @@
 use Rattle.std.proofs.Common.{◌≡◌, ℕ, List, Ok, refl, sym, subst, ◌∙◌, arith}
 use Rattle.std.specs.Prelude.{IsTrue}
 use Rattle.c_values.specs.Kind.{IsValue}
-use Rattle.typed_trees.specs.declared.expression.TypedExpr.{TypedExpr}
-use Rattle.typed_trees.specs.declared.unit.Typed.{Typed}
-use Rattle.typed_trees.specs.Fitting.{Nameable, expression_fit, expression_fits}
+use Rattle.c_typed_trees.specs.declared.expression.TypedExpr.{TypedExpr}
+use Rattle.c_typed_trees.specs.declared.unit.Typed.{Typed}
+use Rattle.c_typed_trees.specs.Fitting.{Nameable, expression_fit, expression_fits}
 use Rattle.tree_meaning.specs.declared.activation.Activation.{Activation}
 use Rattle.tree_meaning.specs.Outcomes.{Ends, BlockedEnd}
 use Rattle.tree_meaning.specs.Calls as calling

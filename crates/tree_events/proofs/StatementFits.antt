@@ -4,15 +4,15 @@ use Rattle.std.specs.Option.{option_map}
 use Rattle.c_values.specs.declared.kinds.Kind.{Kind}
 use Rattle.c_values.specs.declared.operators.BinaryOp.{BinaryOp}
 use Rattle.cfa.specs.declared.parts.Variable.{Variable}
-use Rattle.typed_trees.specs.declared.expression.TypedCall.{TypedCall}
-use Rattle.typed_trees.specs.declared.expression.TypedExpr.{TypedExpr}
-use Rattle.typed_trees.specs.declared.expression.TypedPlace.{TypedPlace}
-use Rattle.typed_trees.specs.declared.statement.TypedForm.{TypedForm, fold-TypedForm, roll-TypedForm, the_lemmas}
-use Rattle.typed_trees.specs.declared.statement.TypedForm.TheOpen.{TypedForm-F, TypedGroup-F, TypedStatement-F}
-use Rattle.typed_trees.specs.declared.statement.TypedGroup.{TypedGroup, fold-TypedGroup, roll-TypedGroup}
-use Rattle.typed_trees.specs.declared.statement.TypedStatement.{TypedStatement, roll-TypedStatement}
-use Rattle.typed_trees.specs.Fitting.{Nameable, statement_fits}
-use Rattle.typed_trees.specs.Fitting as fitting
+use Rattle.c_typed_trees.specs.declared.expression.TypedCall.{TypedCall}
+use Rattle.c_typed_trees.specs.declared.expression.TypedExpr.{TypedExpr}
+use Rattle.c_typed_trees.specs.declared.expression.TypedPlace.{TypedPlace}
+use Rattle.c_typed_trees.specs.declared.statement.TypedForm.{TypedForm, fold-TypedForm, roll-TypedForm, the_lemmas}
+use Rattle.c_typed_trees.specs.declared.statement.TypedForm.TheOpen.{TypedForm-F, TypedGroup-F, TypedStatement-F}
+use Rattle.c_typed_trees.specs.declared.statement.TypedGroup.{TypedGroup, fold-TypedGroup, roll-TypedGroup}
+use Rattle.c_typed_trees.specs.declared.statement.TypedStatement.{TypedStatement, roll-TypedStatement}
+use Rattle.c_typed_trees.specs.Fitting.{Nameable, statement_fits}
+use Rattle.c_typed_trees.specs.Fitting as fitting
 
 unfoldable pub form_fits : Nameable → TypedForm → Bool
 form_fits n = fold-TypedForm Bool (Kind → Bool) Bool (fitting.statement_form n) (fitting.group_step n) (fitting.statement_step n)

@@ -6,16 +6,16 @@ use Rattle.c_values.specs.declared.kinds.Kind.{Kind}
 use Rattle.c_values.specs.declared.operators.BinaryOp.{BinaryOp}
 use Rattle.c_values.specs.declared.operators.UnaryOp.{UnaryOp}
 use Rattle.cfa.specs.declared.parts.Variable.{Variable}
-use Rattle.typed_trees.specs.declared.expression.TypedCall.{TypedCall, roll-TypedCall}
-use Rattle.typed_trees.specs.declared.expression.TypedExpr.{TypedExpr, roll-TypedExpr}
-use Rattle.typed_trees.specs.declared.expression.TypedExprForm.{TypedExprForm, roll-TypedExprForm, the_lemmas as expression_lemmas}
-use Rattle.typed_trees.specs.declared.expression.TypedExprForm.TheOpen.{TypedCall-F, TypedExpr-F, TypedExprForm-F}
-use Rattle.typed_trees.specs.declared.expression.TypedPlace.{TypedPlace, roll-TypedPlace}
-use Rattle.typed_trees.specs.declared.statement.TypedForm.{TypedForm, roll-TypedForm, the_lemmas as statement_lemmas}
-use Rattle.typed_trees.specs.declared.statement.TypedForm.TheOpen.{TypedForm-F, TypedGroup-F, TypedStatement-F}
-use Rattle.typed_trees.specs.declared.statement.TypedGroup.{TypedGroup, roll-TypedGroup}
-use Rattle.typed_trees.specs.declared.statement.TypedStatement.{TypedStatement, roll-TypedStatement}
-use Rattle.typed_trees.specs.declared.unit.Typed.{Typed}
+use Rattle.c_typed_trees.specs.declared.expression.TypedCall.{TypedCall, roll-TypedCall}
+use Rattle.c_typed_trees.specs.declared.expression.TypedExpr.{TypedExpr, roll-TypedExpr}
+use Rattle.c_typed_trees.specs.declared.expression.TypedExprForm.{TypedExprForm, roll-TypedExprForm, the_lemmas as expression_lemmas}
+use Rattle.c_typed_trees.specs.declared.expression.TypedExprForm.TheOpen.{TypedCall-F, TypedExpr-F, TypedExprForm-F}
+use Rattle.c_typed_trees.specs.declared.expression.TypedPlace.{TypedPlace, roll-TypedPlace}
+use Rattle.c_typed_trees.specs.declared.statement.TypedForm.{TypedForm, roll-TypedForm, the_lemmas as statement_lemmas}
+use Rattle.c_typed_trees.specs.declared.statement.TypedForm.TheOpen.{TypedForm-F, TypedGroup-F, TypedStatement-F}
+use Rattle.c_typed_trees.specs.declared.statement.TypedGroup.{TypedGroup, roll-TypedGroup}
+use Rattle.c_typed_trees.specs.declared.statement.TypedStatement.{TypedStatement, roll-TypedStatement}
+use Rattle.c_typed_trees.specs.declared.unit.Typed.{Typed}
 use Rattle.tree_events.specs.Outcomes.{Meaning, At}
 use Rattle.tree_meaning.specs.declared.activation.Activation.{Activation}
 use Rattle.tree_events.specs.Expressions.{placed_at}

@@ -4,11 +4,11 @@ use Rattle.c_meaning.specs.Steps.{value_before}
 use Rattle.cfa.specs.declared.parts.InputFunction.{InputFunction}
 use Rattle.cfa.specs.declared.parts.Variable.{Variable}
 use Rattle.cfa.specs.declared.state.Trap.{Trap}
-use Rattle.typed_trees.specs.declared.expression.Callee.{Callee}
-use Rattle.typed_trees.specs.declared.expression.Callee.TheVariants.{Defined, Input}
-use Rattle.typed_trees.specs.declared.unit.Typed.{Typed}
-use Rattle.typed_trees.specs.declared.unit.TypedFunction.{TypedFunction}
-use Rattle.edge_events.specs.declared.event.What.TheVariants.{Entered, Left, Answered}
+use Rattle.c_typed_trees.specs.declared.expression.Callee.{Callee}
+use Rattle.c_typed_trees.specs.declared.expression.Callee.TheVariants.{Defined, Input}
+use Rattle.c_typed_trees.specs.declared.unit.Typed.{Typed}
+use Rattle.c_typed_trees.specs.declared.unit.TypedFunction.{TypedFunction}
+use Rattle.tree_events.specs.declared.edge_events.event.What.TheVariants.{Entered, Left, Answered}
 use Rattle.tree_meaning.specs.Outcomes.{Store, Ends, BlockedEnd, TooDeepEnd}
 use Rattle.tree_meaning.specs.declared.way.Way.{Way}
 use Rattle.tree_meaning.specs.declared.activation.Activation.{Activation}

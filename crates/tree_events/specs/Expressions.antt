@@ -11,7 +11,7 @@ use Rattle.c_values.specs.declared.operators.UnaryOp.{UnaryOp}
 use Rattle.c_values.specs.declared.operators.UnaryOp.TheVariants as unary
 use Rattle.cfa.specs.Values.{after_value}
 use Rattle.cfa.specs.declared.parts.Variable.{Variable}
-use Rattle.edge_events.specs.declared.event.What.TheVariants.{Outcome, Valued}
+use Rattle.tree_events.specs.declared.edge_events.event.What.TheVariants.{Outcome, Valued}
 use Rattle.tree_meaning.specs.Outcomes.{Store, is_true}
 use Rattle.tree_meaning.specs.declared.activation.Activation.{Activation}
 use Rattle.tree_meaning.specs.Activations.{start_of, element_at, as_kind, read}

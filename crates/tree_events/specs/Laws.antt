@@ -1,8 +1,8 @@
 -- What follows from what happens in trees.
 use Rattle.std.specs.Prelude.{◌≡◌, ◌≢◌, ℕ, ◌+◌, List, ◌++◌}
 use Rattle.c_meaning.specs.declared.input.Input.{Input}
-use Rattle.typed_trees.specs.declared.unit.Typed.{Typed}
-use Rattle.edge_events.specs.declared.event.Event.{Event}
+use Rattle.c_typed_trees.specs.declared.unit.Typed.{Typed}
+use Rattle.tree_events.specs.declared.edge_events.event.Event.{Event}
 use Rattle.tree_meaning.specs.declared.ends.TreeEnd.TheVariants.{OutOfTurns}
 use Rattle.tree_meaning.specs.Ends.{tree_end}
 use Rattle.tree_meaning.specs.Running.{FitUnit}

@@ -7,3 +7,4 @@ pub mod Switch
 pub mod Trees
 pub mod Runs
 pub mod Laws
+pub mod edge_events

@@ -1,6 +1,6 @@
 -- What happens in loops (ISO/IEC 9899:2011, 6.8.5). Each beginning of a loop's body takes a turn.
 use Rattle.std.specs.Prelude.{ℕ, ◌+◌, zero, suc, Bool, true, false, List, Option, Some, None}
-use Rattle.edge_events.specs.declared.event.What.TheVariants.{Enters, Again, Always}
+use Rattle.tree_events.specs.declared.edge_events.event.What.TheVariants.{Enters, Again, Always}
 use Rattle.tree_meaning.specs.Outcomes.{Store, OutOfTurns}
 use Rattle.tree_meaning.specs.declared.way.Way.{Way}
 use Rattle.tree_meaning.specs.declared.way.Way.TheVariants.{GoesOn, Breaks, Continues, Returns}

@@ -4,9 +4,9 @@ use Rattle.std.specs.Prelude.{ℕ, zero, suc, Bool, List, [], ◌∷◌, ◌++�
 use Rattle.fq_core.specs.declared.span.Span.{Span}
 use Rattle.fq_core.specs.declared.statement_kind.StatementKind.{StatementKind}
 use Rattle.cfa.specs.declared.state.Trap.{Trap}
-use Rattle.edge_events.specs.declared.event.Event.{Event}
-use Rattle.edge_events.specs.declared.event.What.{What}
-use Rattle.edge_events.specs.declared.event.What.TheVariants.{Did}
+use Rattle.tree_events.specs.declared.edge_events.event.Event.{Event}
+use Rattle.tree_events.specs.declared.edge_events.event.What.{What}
+use Rattle.tree_events.specs.declared.edge_events.event.What.TheVariants.{Did}
 use Rattle.tree_meaning.specs.Outcomes.{Store, TrapEnd, Done, Gives, Ends, OutOfTurns}
 use Rattle.tree_meaning.specs.declared.way.Way.{Way}
 use Rattle.tree_meaning.specs.declared.way.Way.TheVariants.{GoesOn}

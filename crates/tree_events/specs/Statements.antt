@@ -7,7 +7,7 @@ use Rattle.c_values.specs.declared.operators.BinaryOp.{BinaryOp}
 use Rattle.cfa.specs.Values.{after_value}
 use Rattle.cfa.specs.declared.parts.Variable.{Variable}
 use Rattle.cfa.specs.declared.state.Trap.TheVariants as trap
-use Rattle.edge_events.specs.declared.event.What.TheVariants.{Did}
+use Rattle.tree_events.specs.declared.edge_events.event.What.TheVariants.{Did}
 use Rattle.tree_meaning.specs.Outcomes.{Store, End, TrapEnd, BlockedEnd, Ends, is_true}
 use Rattle.tree_meaning.specs.declared.way.Way.{Way}
 use Rattle.tree_meaning.specs.declared.way.Way.TheVariants.{GoesOn, Breaks, Continues, Returns}

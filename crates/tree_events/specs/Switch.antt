@@ -2,8 +2,8 @@
 use Rattle.std.specs.Prelude.{ℕ, Bool, true, false, ◌==◌, ◌||◌, if◌then◌else◌, List, [], ◌∷◌, ◌++◌, map, Option, Some, None}
 use Rattle.std.specs.List.{flat_map}
 use Rattle.fq_core.specs.declared.span.Span.{Span}
-use Rattle.edge_events.specs.declared.event.Event.{Event}
-use Rattle.edge_events.specs.declared.event.What.TheVariants.{Outcome, Valued, Straight}
+use Rattle.tree_events.specs.declared.edge_events.event.Event.{Event}
+use Rattle.tree_events.specs.declared.edge_events.event.What.TheVariants.{Outcome, Valued, Straight}
 use Rattle.tree_meaning.specs.Outcomes.{Store}
 use Rattle.tree_meaning.specs.declared.way.Way.{Way}
 use Rattle.tree_meaning.specs.declared.way.Way.TheVariants.{GoesOn, Breaks, Continues, Returns}

@@ -5,6 +5,11 @@
 //! `Expressions`, `Statements`, `Loops`, `Switch` and `Calls` each form, `Trees` gives each tree what happens in it, and `Runs` says
 //! what happens in a run. That both meanings end alike is a law (`laws`). Events are those of `edge_events`, which says what an
 //! edge of the automaton tells.
+//!
+//! It has these modules too:
+//!
+//! - [`edge_events`]: What the edges of a control flow automaton tell of a run that takes them.
 #![tactic(auto)]
 
+pub mod edge_events;
 pub mod laws;

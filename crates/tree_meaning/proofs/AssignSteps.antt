@@ -10,11 +10,11 @@ use Rattle.c_values.proofs.Fitting.{and_left, and_right}
 use Rattle.cfa.specs.Values.{after_value}
 use Rattle.cfa.specs.declared.parts.Variable.{Variable}
 use Rattle.cfa.specs.declared.state.Trap.{Trap}
-use Rattle.typed_trees.specs.Fitting as fitting
-use Rattle.typed_trees.specs.Fitting.{Nameable, Fit, expression_fit, place_fits, operator_fits}
-use Rattle.typed_trees.specs.declared.expression.TypedExpr.{TypedExpr}
-use Rattle.typed_trees.specs.declared.expression.TypedExprForm.{the_lemmas}
-use Rattle.typed_trees.specs.declared.expression.TypedPlace.{TypedPlace, out-TypedPlace}
+use Rattle.c_typed_trees.specs.Fitting as fitting
+use Rattle.c_typed_trees.specs.Fitting.{Nameable, Fit, expression_fit, place_fits, operator_fits}
+use Rattle.c_typed_trees.specs.declared.expression.TypedExpr.{TypedExpr}
+use Rattle.c_typed_trees.specs.declared.expression.TypedExprForm.{the_lemmas}
+use Rattle.c_typed_trees.specs.declared.expression.TypedPlace.{TypedPlace, out-TypedPlace}
 use Rattle.tree_meaning.specs.declared.activation.Activation.{Activation}
 use Rattle.tree_meaning.specs.declared.machine.Machine.{Machine}
 use Rattle.tree_meaning.specs.declared.stop.Stop.{Stop}

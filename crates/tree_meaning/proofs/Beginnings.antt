@@ -6,8 +6,8 @@ use Rattle.std.proofs.lemmas.List.{append-nil, drop_all, take_more}
 use Rattle.c_values.specs.declared.kinds.Kind.{Kind}
 use Rattle.cfa.specs.declared.parts.Variable.{Variable}
 use Rattle.c_meaning.specs.Starts.{fitted_words}
-use Rattle.typed_trees.specs.Fitting.{word_kind}
-use Rattle.typed_trees.specs.declared.unit.Global.{Global}
+use Rattle.c_typed_trees.specs.Fitting.{word_kind}
+use Rattle.c_typed_trees.specs.declared.unit.Global.{Global}
 
 -- the first values of globals
 abbrev pub values_of : List Global → List ℕ

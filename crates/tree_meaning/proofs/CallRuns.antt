@@ -3,10 +3,10 @@ use Rattle.std.proofs.Common.{◌≡◌, ◌≤◌, ◌<◌, ℕ, suc, ◌+◌, 
 use Rattle.std.specs.Prelude.{nat_le, slice_get, slice_index}
 use Rattle.std.proofs.lemmas.Bool.{leb-true, leb-false}
 use Rattle.cfa.specs.declared.parts.Variable.{Variable}
-use Rattle.typed_trees.specs.declared.expression.Callee.{Callee}
-use Rattle.typed_trees.specs.declared.expression.Callee.TheVariants.{Defined, Input}
-use Rattle.typed_trees.specs.declared.expression.TypedCall.{TypedCall, out-TypedCall}
-use Rattle.typed_trees.specs.declared.unit.TypedFunction.{TypedFunction}
+use Rattle.c_typed_trees.specs.declared.expression.Callee.{Callee}
+use Rattle.c_typed_trees.specs.declared.expression.Callee.TheVariants.{Defined, Input}
+use Rattle.c_typed_trees.specs.declared.expression.TypedCall.{TypedCall, out-TypedCall}
+use Rattle.c_typed_trees.specs.declared.unit.TypedFunction.{TypedFunction}
 use Rattle.tree_meaning.specs.declared.activation.Activation.{Activation}
 use Rattle.tree_meaning.specs.Outcomes.{Store, Done, Gives, Ends, BlockedEnd, TooDeepEnd, ◌andthen◌, unless_trap, Evaluation, turn}
 use Rattle.tree_meaning.specs.Activations.{first_cells, with_activation, without_activation}

@@ -8,9 +8,9 @@ use Rattle.c_values.specs.declared.kinds.Kind.{Kind}
 use Rattle.c_values.proofs.Fitting.{and_left, and_right, and_both}
 use Rattle.cfa.specs.Graph.{variable_fits, result_kind_fits}
 use Rattle.cfa.specs.declared.parts.Variable.{Variable}
-use Rattle.typed_trees.specs.Fitting.{Nameable, function_fits, is_variable, nameable, span_fits, statement_fits, word_kinds}
-use Rattle.typed_trees.specs.declared.unit.Typed.{Typed}
-use Rattle.typed_trees.specs.declared.unit.TypedFunction.{TypedFunction}
+use Rattle.c_typed_trees.specs.Fitting.{Nameable, function_fits, is_variable, nameable, span_fits, statement_fits, word_kinds}
+use Rattle.c_typed_trees.specs.declared.unit.Typed.{Typed}
+use Rattle.c_typed_trees.specs.declared.unit.TypedFunction.{TypedFunction}
 use Rattle.tree_meaning.specs.Running.{FitStatements, FitUnit}
 use Rattle.tree_meaning.proofs.StatementFits.{body_fit, one_fits}
 

@@ -3,11 +3,11 @@ use Rattle.std.proofs.Common.{◌≡◌, ℕ, List, Option, Some, None, sym, ap,
 use Rattle.std.specs.Option.{option_map}
 use Rattle.c_values.specs.declared.operators.BinaryOp.{BinaryOp}
 use Rattle.c_values.specs.declared.operators.UnaryOp.{UnaryOp}
-use Rattle.typed_trees.specs.declared.expression.TypedCall.{TypedCall}
-use Rattle.typed_trees.specs.declared.expression.TypedExpr.{TypedExpr}
-use Rattle.typed_trees.specs.declared.expression.TypedExprForm.{TypedExprForm, out-TypedExprForm, the_lemmas}
-use Rattle.typed_trees.specs.declared.expression.TypedExprForm.TheVariants as forms
-use Rattle.typed_trees.specs.declared.expression.TypedPlace.{TypedPlace, out-TypedPlace}
+use Rattle.c_typed_trees.specs.declared.expression.TypedCall.{TypedCall}
+use Rattle.c_typed_trees.specs.declared.expression.TypedExpr.{TypedExpr}
+use Rattle.c_typed_trees.specs.declared.expression.TypedExprForm.{TypedExprForm, out-TypedExprForm, the_lemmas}
+use Rattle.c_typed_trees.specs.declared.expression.TypedExprForm.TheVariants as forms
+use Rattle.c_typed_trees.specs.declared.expression.TypedPlace.{TypedPlace, out-TypedPlace}
 use Rattle.tree_meaning.specs.Outcomes.{Store, Done, Gives, ◌andthen◌, Evaluation}
 use Rattle.tree_meaning.specs.Expressions.{Meant, Placed, part_meant, placed_at, both_does, either_does, choice_does}
 use Rattle.tree_meaning.specs.Running.{Scene, meant_in, placed_in, call_in, value_in, part_form, part_in}

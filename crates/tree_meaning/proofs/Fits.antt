@@ -7,14 +7,14 @@ use Rattle.c_values.specs.declared.kinds.Kind.{Kind}
 use Rattle.c_values.specs.declared.operators.BinaryOp.{BinaryOp}
 use Rattle.c_values.specs.declared.operators.UnaryOp.{UnaryOp}
 use Rattle.c_values.proofs.Fitting.{and_left, and_right}
-use Rattle.typed_trees.specs.Fitting as fitting
-use Rattle.typed_trees.specs.Fitting.{Nameable, Fit, CallFit, span_fits, expression_fit, expression_fits, place_fits, call_fit}
-use Rattle.typed_trees.specs.declared.expression.TypedCall.{TypedCall}
-use Rattle.typed_trees.specs.declared.expression.TypedExpr.{TypedExpr}
-use Rattle.typed_trees.specs.declared.expression.TypedExprForm.{TypedExprForm, fold-TypedExprForm, the_lemmas}
-use Rattle.typed_trees.specs.declared.expression.TypedExprForm.TheOpen.{TypedExprForm-F}
-use Rattle.typed_trees.specs.declared.expression.TypedExprForm.TheVariants as forms
-use Rattle.typed_trees.specs.declared.expression.TypedPlace.{TypedPlace, out-TypedPlace}
+use Rattle.c_typed_trees.specs.Fitting as fitting
+use Rattle.c_typed_trees.specs.Fitting.{Nameable, Fit, CallFit, span_fits, expression_fit, expression_fits, place_fits, call_fit}
+use Rattle.c_typed_trees.specs.declared.expression.TypedCall.{TypedCall}
+use Rattle.c_typed_trees.specs.declared.expression.TypedExpr.{TypedExpr}
+use Rattle.c_typed_trees.specs.declared.expression.TypedExprForm.{TypedExprForm, fold-TypedExprForm, the_lemmas}
+use Rattle.c_typed_trees.specs.declared.expression.TypedExprForm.TheOpen.{TypedExprForm-F}
+use Rattle.c_typed_trees.specs.declared.expression.TypedExprForm.TheVariants as forms
+use Rattle.c_typed_trees.specs.declared.expression.TypedPlace.{TypedPlace, out-TypedPlace}
 use Rattle.tree_meaning.specs.Running.{FitExpression, FitPlace, FitCall}
 use Rattle.tree_meaning.proofs.ValueKinds.{meet_is}
 

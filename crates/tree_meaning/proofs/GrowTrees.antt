@@ -9,17 +9,17 @@ use Rattle.c_values.specs.declared.operators.UnaryOp.{UnaryOp}
 use Rattle.c_meaning.specs.declared.input.Input.{Input}
 use Rattle.cfa.specs.declared.parts.Variable.{Variable}
 use Rattle.cfa.specs.declared.state.Trap.TheVariants as trap
-use Rattle.typed_trees.specs.declared.expression.TypedCall.{TypedCall, roll-TypedCall, ind-TypedCall}
-use Rattle.typed_trees.specs.declared.expression.TypedExpr.{TypedExpr, ind-TypedExpr, roll-TypedExpr}
-use Rattle.typed_trees.specs.declared.expression.TypedExprForm.{TypedExprForm, roll-TypedExprForm}
-use Rattle.typed_trees.specs.declared.expression.TypedExprForm.TheOpen.{TypedCall-F, TypedExpr-F, TypedExprForm-F, TypedPlace-F}
-use Rattle.typed_trees.specs.declared.expression.TypedPlace.{TypedPlace, ind-TypedPlace, map-TypedPlace, roll-TypedPlace}
-use Rattle.typed_trees.specs.declared.statement.TypedForm.{TypedForm, roll-TypedForm}
-use Rattle.typed_trees.specs.declared.statement.TypedForm.TheOpen.{TypedForm-F, TypedGroup-F, TypedStatement-F}
-use Rattle.typed_trees.specs.declared.statement.TypedGroup.{TypedGroup, roll-TypedGroup}
-use Rattle.typed_trees.specs.declared.statement.TypedStatement.{TypedStatement, ind-TypedStatement, roll-TypedStatement}
-use Rattle.typed_trees.specs.declared.unit.Typed.{Typed}
-use Rattle.typed_trees.specs.declared.unit.TypedFunction.{TypedFunction}
+use Rattle.c_typed_trees.specs.declared.expression.TypedCall.{TypedCall, roll-TypedCall, ind-TypedCall}
+use Rattle.c_typed_trees.specs.declared.expression.TypedExpr.{TypedExpr, ind-TypedExpr, roll-TypedExpr}
+use Rattle.c_typed_trees.specs.declared.expression.TypedExprForm.{TypedExprForm, roll-TypedExprForm}
+use Rattle.c_typed_trees.specs.declared.expression.TypedExprForm.TheOpen.{TypedCall-F, TypedExpr-F, TypedExprForm-F, TypedPlace-F}
+use Rattle.c_typed_trees.specs.declared.expression.TypedPlace.{TypedPlace, ind-TypedPlace, map-TypedPlace, roll-TypedPlace}
+use Rattle.c_typed_trees.specs.declared.statement.TypedForm.{TypedForm, roll-TypedForm}
+use Rattle.c_typed_trees.specs.declared.statement.TypedForm.TheOpen.{TypedForm-F, TypedGroup-F, TypedStatement-F}
+use Rattle.c_typed_trees.specs.declared.statement.TypedGroup.{TypedGroup, roll-TypedGroup}
+use Rattle.c_typed_trees.specs.declared.statement.TypedStatement.{TypedStatement, ind-TypedStatement, roll-TypedStatement}
+use Rattle.c_typed_trees.specs.declared.unit.Typed.{Typed}
+use Rattle.c_typed_trees.specs.declared.unit.TypedFunction.{TypedFunction}
 use Rattle.tree_meaning.specs.declared.ends.TreeEnd.TheVariants as ends
 use Rattle.tree_meaning.specs.Outcomes.{TrapEnd, BlockedEnd, Done, Gives, Ends, OutOfTurns, Evaluation, Meaning}
 use Rattle.tree_meaning.specs.declared.way.Way.{Way}

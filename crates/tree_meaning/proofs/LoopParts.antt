@@ -2,8 +2,8 @@
 use Rattle.std.proofs.Common.{◌≡◌, Option, Some, None, sym, ap, subst, ◌∙◌}
 use Rattle.std.specs.Borrow.{Bor}
 use Rattle.std.specs.Option.{option_map}
-use Rattle.typed_trees.specs.declared.expression.TypedExpr.{TypedExpr}
-use Rattle.typed_trees.specs.declared.statement.TypedStatement.{TypedStatement}
+use Rattle.c_typed_trees.specs.declared.expression.TypedExpr.{TypedExpr}
+use Rattle.c_typed_trees.specs.declared.statement.TypedStatement.{TypedStatement}
 use Rattle.tree_meaning.specs.declared.task.LoopStep.TheVariants as step
 use Rattle.tree_meaning.specs.declared.task.LoopTest.TheVariants as test
 use Rattle.tree_meaning.specs.Loops.{test_or, step_or}

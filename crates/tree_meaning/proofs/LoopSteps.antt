@@ -1,8 +1,8 @@
 -- The steps of loops.
 use Rattle.std.proofs.Common.{◌≡◌, ℕ, suc, ◌+◌, ◌-◌, Bool, true, false, List, sym, ap, subst, ◌∙◌, add-one, arith}
 use Rattle.std.specs.Borrow.{Bor}
-use Rattle.typed_trees.specs.declared.expression.TypedExpr.{TypedExpr}
-use Rattle.typed_trees.specs.declared.statement.TypedStatement.{TypedStatement}
+use Rattle.c_typed_trees.specs.declared.expression.TypedExpr.{TypedExpr}
+use Rattle.c_typed_trees.specs.declared.statement.TypedStatement.{TypedStatement}
 use Rattle.tree_meaning.specs.declared.machine.Machine.{Machine}
 use Rattle.tree_meaning.specs.declared.stop.Stop.{Stop}
 use Rattle.tree_meaning.specs.declared.stop.Stop.TheVariants as stop

@@ -10,10 +10,10 @@ use Rattle.c_values.specs.declared.operators.BinaryOp.{BinaryOp}
 use Rattle.c_values.specs.declared.operators.UnaryOp.{UnaryOp}
 use Rattle.cfa.specs.Values.{after_value}
 use Rattle.cfa.specs.declared.state.Trap.{Trap}
-use Rattle.typed_trees.specs.declared.expression.TypedCall.{TypedCall}
-use Rattle.typed_trees.specs.declared.expression.TypedExpr.{TypedExpr}
-use Rattle.typed_trees.specs.declared.expression.TypedExprForm.TheVariants as forms
-use Rattle.typed_trees.specs.declared.expression.TypedPlace.{TypedPlace, out-TypedPlace}
+use Rattle.c_typed_trees.specs.declared.expression.TypedCall.{TypedCall}
+use Rattle.c_typed_trees.specs.declared.expression.TypedExpr.{TypedExpr}
+use Rattle.c_typed_trees.specs.declared.expression.TypedExprForm.TheVariants as forms
+use Rattle.c_typed_trees.specs.declared.expression.TypedPlace.{TypedPlace, out-TypedPlace}
 use Rattle.tree_meaning.specs.Activations.{as_kind, element_at, read, start_of}
 use Rattle.tree_meaning.specs.Expressions.{Meant, Placed, operated, placed_at}
 use Rattle.tree_meaning.specs.Running.{Scene, meant_in, placed_in, FitExpression}

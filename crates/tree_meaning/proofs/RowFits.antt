@@ -4,10 +4,10 @@ use Rattle.std.specs.Prelude.{IsTrue, ◌&&◌}
 use Rattle.std.specs.Borrow.{Bor}
 use Rattle.std.specs.List.{list_all}
 use Rattle.c_values.proofs.Fitting.{and_left, and_right}
-use Rattle.typed_trees.specs.Fitting.{expression_fits, statement_fits}
-use Rattle.typed_trees.specs.declared.expression.TypedExpr.{TypedExpr}
-use Rattle.typed_trees.specs.declared.statement.TypedGroup.{TypedGroup, out-TypedGroup}
-use Rattle.typed_trees.specs.declared.statement.TypedStatement.{TypedStatement}
+use Rattle.c_typed_trees.specs.Fitting.{expression_fits, statement_fits}
+use Rattle.c_typed_trees.specs.declared.expression.TypedExpr.{TypedExpr}
+use Rattle.c_typed_trees.specs.declared.statement.TypedGroup.{TypedGroup, out-TypedGroup}
+use Rattle.c_typed_trees.specs.declared.statement.TypedStatement.{TypedStatement}
 use Rattle.tree_meaning.specs.Running.{FitExpression, FitExpressions, FitStatement, FitStatements, FitArms, FitGroups}
 
 pub statement_fits_first : (l : Bor (List TypedStatement)) (x : Bor TypedStatement) (others : List TypedStatement) → l.now ≡ x.now ∷ others → FitStatements l.now → FitStatement x.now

@@ -4,13 +4,13 @@ use Rattle.std.specs.Option.{option_map}
 use Rattle.c_values.specs.declared.kinds.Kind.{Kind}
 use Rattle.c_values.specs.declared.operators.BinaryOp.{BinaryOp}
 use Rattle.cfa.specs.declared.parts.Variable.{Variable}
-use Rattle.typed_trees.specs.declared.expression.TypedCall.{TypedCall}
-use Rattle.typed_trees.specs.declared.expression.TypedExpr.{TypedExpr}
-use Rattle.typed_trees.specs.declared.expression.TypedPlace.{TypedPlace}
-use Rattle.typed_trees.specs.declared.statement.TypedForm.{TypedForm, the_lemmas}
-use Rattle.typed_trees.specs.declared.statement.TypedForm.TheVariants as forms
-use Rattle.typed_trees.specs.declared.statement.TypedGroup.{TypedGroup, out-TypedGroup}
-use Rattle.typed_trees.specs.declared.statement.TypedStatement.{TypedStatement}
+use Rattle.c_typed_trees.specs.declared.expression.TypedCall.{TypedCall}
+use Rattle.c_typed_trees.specs.declared.expression.TypedExpr.{TypedExpr}
+use Rattle.c_typed_trees.specs.declared.expression.TypedPlace.{TypedPlace}
+use Rattle.c_typed_trees.specs.declared.statement.TypedForm.{TypedForm, the_lemmas}
+use Rattle.c_typed_trees.specs.declared.statement.TypedForm.TheVariants as forms
+use Rattle.c_typed_trees.specs.declared.statement.TypedGroup.{TypedGroup, out-TypedGroup}
+use Rattle.c_typed_trees.specs.declared.statement.TypedStatement.{TypedStatement}
 use Rattle.tree_meaning.specs.declared.way.Way.TheVariants.{GoesOn, Breaks, Continues}
 use Rattle.tree_meaning.specs.Outcomes.{Gives, ◌andthen◌, Evaluation, Meaning, skip}
 use Rattle.tree_meaning.specs.Loops.{while_loop, do_loop, for_loop}

@@ -5,8 +5,8 @@ use Rattle.std.specs.Borrow.{Bor}
 use Rattle.std.specs.Option.{option_map}
 use Rattle.cfa.specs.declared.parts.Variable.{Variable}
 use Rattle.cfa.specs.declared.state.Trap.TheVariants as trap
-use Rattle.typed_trees.specs.declared.expression.TypedExpr.{TypedExpr}
-use Rattle.typed_trees.specs.declared.statement.TypedStatement.{TypedStatement}
+use Rattle.c_typed_trees.specs.declared.expression.TypedExpr.{TypedExpr}
+use Rattle.c_typed_trees.specs.declared.statement.TypedStatement.{TypedStatement}
 use Rattle.tree_meaning.specs.declared.machine.Machine.{Machine}
 use Rattle.tree_meaning.specs.declared.stop.Stop.{Stop}
 use Rattle.tree_meaning.specs.declared.stop.Stop.TheVariants as stop

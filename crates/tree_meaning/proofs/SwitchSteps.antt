@@ -7,10 +7,10 @@ use Rattle.std.specs.Option.{option_map, unwrap_or}
 use Rattle.std.proofs.lemmas.Iterator.Adapters.{position_from-zero}
 use Rattle.std.proofs.lemmas.List.{drop_all, drop-drop, take_all}
 use Rattle.c_values.proofs.Fitting.{and_right}
-use Rattle.typed_trees.specs.Fitting.{Nameable, statement_fits}
+use Rattle.c_typed_trees.specs.Fitting.{Nameable, statement_fits}
 use Rattle.std.specs.Borrow.{Bor}
-use Rattle.typed_trees.specs.declared.statement.TypedGroup.{TypedGroup, out-TypedGroup}
-use Rattle.typed_trees.specs.declared.statement.TypedStatement.{TypedStatement}
+use Rattle.c_typed_trees.specs.declared.statement.TypedGroup.{TypedGroup, out-TypedGroup}
+use Rattle.c_typed_trees.specs.declared.statement.TypedStatement.{TypedStatement}
 use Rattle.tree_meaning.specs.declared.machine.Machine.{Machine}
 use Rattle.tree_meaning.specs.declared.task.GroupStage.TheVariants as group
 use Rattle.tree_meaning.specs.declared.task.Task.{Task}

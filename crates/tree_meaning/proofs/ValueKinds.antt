@@ -12,13 +12,13 @@ use Rattle.c_values.proofs.Fitting.{and_left, and_right, IsValue-converted, IsVa
 use Rattle.cfa.specs.Kinds.{same_kind, same_sign}
 use Rattle.cfa.specs.Values.{after_value, operator_trap}
 use Rattle.cfa.specs.declared.state.Trap.{Trap}
-use Rattle.typed_trees.specs.Fitting.{Nameable, Fit, CallFit, span_fits, operands_meet, form_step, call_step, expr_step, place_step, expression_fit, expression_fits, place_fits}
-use Rattle.typed_trees.specs.declared.expression.TypedCall.{TypedCall}
-use Rattle.typed_trees.specs.declared.expression.TypedExpr.{TypedExpr, ind-TypedExpr, roll-TypedExpr}
-use Rattle.typed_trees.specs.declared.expression.TypedExprForm.{TypedExprForm, roll-TypedExprForm, fold-TypedExprForm, the_lemmas}
-use Rattle.typed_trees.specs.declared.expression.TypedExprForm.TheOpen.{TypedExpr-F, TypedExprForm-F}
-use Rattle.typed_trees.specs.declared.expression.TypedPlace.{TypedPlace}
-use Rattle.typed_trees.specs.declared.unit.Typed.{Typed}
+use Rattle.c_typed_trees.specs.Fitting.{Nameable, Fit, CallFit, span_fits, operands_meet, form_step, call_step, expr_step, place_step, expression_fit, expression_fits, place_fits}
+use Rattle.c_typed_trees.specs.declared.expression.TypedCall.{TypedCall}
+use Rattle.c_typed_trees.specs.declared.expression.TypedExpr.{TypedExpr, ind-TypedExpr, roll-TypedExpr}
+use Rattle.c_typed_trees.specs.declared.expression.TypedExprForm.{TypedExprForm, roll-TypedExprForm, fold-TypedExprForm, the_lemmas}
+use Rattle.c_typed_trees.specs.declared.expression.TypedExprForm.TheOpen.{TypedExpr-F, TypedExprForm-F}
+use Rattle.c_typed_trees.specs.declared.expression.TypedPlace.{TypedPlace}
+use Rattle.c_typed_trees.specs.declared.unit.Typed.{Typed}
 use Rattle.tree_meaning.specs.declared.activation.Activation.{Activation}
 use Rattle.tree_meaning.specs.Activations.{as_kind, read}
 use Rattle.tree_meaning.specs.Expressions.{Rest, Meant, operated}

@@ -5,10 +5,10 @@ use Rattle.std.specs.Borrow.{Bor}
 use Rattle.c_values.specs.declared.operators.BinaryOp.{BinaryOp}
 use Rattle.c_values.specs.declared.operators.UnaryOp.{UnaryOp}
 use Rattle.cfa.specs.declared.state.Trap.{Trap}
-use Rattle.typed_trees.specs.declared.expression.TypedCall.{TypedCall}
-use Rattle.typed_trees.specs.declared.expression.TypedExpr.{TypedExpr}
-use Rattle.typed_trees.specs.declared.expression.TypedExprForm.TheVariants as forms
-use Rattle.typed_trees.specs.declared.expression.TypedPlace.{TypedPlace, out-TypedPlace}
+use Rattle.c_typed_trees.specs.declared.expression.TypedCall.{TypedCall}
+use Rattle.c_typed_trees.specs.declared.expression.TypedExpr.{TypedExpr}
+use Rattle.c_typed_trees.specs.declared.expression.TypedExprForm.TheVariants as forms
+use Rattle.c_typed_trees.specs.declared.expression.TypedPlace.{TypedPlace, out-TypedPlace}
 use Rattle.tree_meaning.specs.declared.machine.Machine.{Machine}
 use Rattle.tree_meaning.specs.declared.stop.Stop.{Stop}
 use Rattle.tree_meaning.specs.declared.stop.Stop.TheVariants as stop
@@ -23,7 +23,7 @@ use Rattle.tree_meaning.specs.Tasks.{Cont, with_value, with_values, with_outer, 
 use Rattle.tree_meaning.specs.Stopping.{IsStop}
 use Rattle.tree_meaning.proofs.Firsts.{constant_first, load_first, convert_first, unary_first, binary_first, both_first, either_first, choice_first, call_first, both_part, either_part, choice_part, call_part, constant_part, load_part, convert_part, unary_part, binary_part, whole_first, element_first}
 use Rattle.tree_meaning.proofs.Fits.{expression_fits_laws, load_fit, convert_fit, unary_fit, left_fit, right_fit, both_left_fit, both_right_fit, either_left_fit, either_right_fit, choice_test_fit, choice_yes_fit, choice_no_fit, call_form_fit, index_fit}
-use Rattle.typed_trees.specs.Fitting.{expression_fits}
+use Rattle.c_typed_trees.specs.Fitting.{expression_fits}
 use Rattle.std.specs.List.{list_all}
 use Rattle.c_values.proofs.Fitting.{and_left, and_right}
 use Rattle.tree_meaning.proofs.Then.{then_then, trap_then}

@@ -4,9 +4,9 @@ use Rattle.std.specs.Option.{option_map}
 use Rattle.c_values.specs.declared.kinds.Kind.{Kind}
 use Rattle.c_meaning.specs.Starts.{fitted_words}
 use Rattle.c_meaning.specs.declared.input.Input.{Input}
-use Rattle.typed_trees.specs.Fitting.{global_cells, word_kinds}
-use Rattle.typed_trees.specs.declared.unit.Typed.{Typed}
-use Rattle.typed_trees.specs.declared.unit.TypedFunction.{TypedFunction}
+use Rattle.c_typed_trees.specs.Fitting.{global_cells, word_kinds}
+use Rattle.c_typed_trees.specs.declared.unit.Typed.{Typed}
+use Rattle.c_typed_trees.specs.declared.unit.TypedFunction.{TypedFunction}
 use Rattle.tree_meaning.specs.declared.ends.TreeEnd.{TreeEnd}
 use Rattle.tree_meaning.specs.declared.ends.TreeEnd.TheVariants as ends
 use Rattle.tree_meaning.specs.Outcomes.{Store, End, TrapEnd, BlockedEnd, TooDeepEnd, Done, Gives, Ends, OutOfTurns}

@@ -1,10 +1,10 @@
 -- What is still to be done, in small steps: each takes what a machine holds, and leaves there what comes next.
 use Rattle.std.specs.Prelude.{◌≡◌, ℕ, ◌+◌, Bool, List, [], ◌∷◌, ◌++◌, map, Option, slice_get, slice_index}
 use Rattle.std.specs.Option.{option_map}
-use Rattle.typed_trees.specs.declared.expression.TypedCall.{TypedCall, out-TypedCall}
-use Rattle.typed_trees.specs.declared.expression.TypedExpr.{TypedExpr}
-use Rattle.typed_trees.specs.declared.statement.TypedGroup.{TypedGroup}
-use Rattle.typed_trees.specs.declared.statement.TypedStatement.{TypedStatement}
+use Rattle.c_typed_trees.specs.declared.expression.TypedCall.{TypedCall, out-TypedCall}
+use Rattle.c_typed_trees.specs.declared.expression.TypedExpr.{TypedExpr}
+use Rattle.c_typed_trees.specs.declared.statement.TypedGroup.{TypedGroup}
+use Rattle.c_typed_trees.specs.declared.statement.TypedStatement.{TypedStatement}
 use Rattle.cfa.specs.declared.state.Trap.TheVariants as trap
 use Rattle.tree_meaning.specs.declared.activation.Activation.{Activation}
 use Rattle.tree_meaning.specs.declared.machine.Machine.{Machine}
@@ -35,8 +35,8 @@ use Rattle.tree_meaning.specs.declared.task.DoLoop.{DoLoop}
 use Rattle.tree_meaning.specs.declared.way.Way.{Way}
 use Rattle.tree_meaning.specs.declared.way.Way.TheVariants.{GoesOn, Returns}
 use Rattle.c_meaning.specs.declared.input.Input.{Input}
-use Rattle.typed_trees.specs.declared.unit.Typed.{Typed}
-use Rattle.typed_trees.specs.declared.unit.TypedFunction.{TypedFunction}
+use Rattle.c_typed_trees.specs.declared.unit.Typed.{Typed}
+use Rattle.c_typed_trees.specs.declared.unit.TypedFunction.{TypedFunction}
 use Rattle.tree_meaning.specs.Ends.{first_activation, first_store}
 use Rattle.tree_meaning.specs.Outcomes.{Store, TrapEnd, BlockedEnd, Done, Gives, ◌andthen◌, unless_trap, Evaluation, Meaning, is_true}
 use Rattle.tree_meaning.specs.Activations.{stored, without_activation}

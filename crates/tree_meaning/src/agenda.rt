@@ -17,11 +17,11 @@ impl<'a> Model for Agenda<'a> {
     ghost use Rattle.std.specs.Coded.{codes};
     ghost use Rattle.tree_meaning.specs.Tasks.{row_fits};
     ghost use Rattle.tree_meaning.specs.declared.task.Task.{Task};
-    ghost use Rattle.typed_trees.specs.contracts.expression.TypedCall as c;
-    ghost use Rattle.typed_trees.specs.contracts.expression.TypedExprForm as e;
-    ghost use Rattle.typed_trees.specs.contracts.expression.TypedPlace as p;
-    ghost use Rattle.typed_trees.specs.contracts.statement.TypedForm as f;
-    ghost use Rattle.typed_trees.specs.contracts.statement.TypedGroup as g;
+    ghost use Rattle.c_typed_trees.specs.contracts.expression.TypedCall as c;
+    ghost use Rattle.c_typed_trees.specs.contracts.expression.TypedExprForm as e;
+    ghost use Rattle.c_typed_trees.specs.contracts.expression.TypedPlace as p;
+    ghost use Rattle.c_typed_trees.specs.contracts.statement.TypedForm as f;
+    ghost use Rattle.c_typed_trees.specs.contracts.statement.TypedGroup as g;
 
     ghost Value = { List Task };
 

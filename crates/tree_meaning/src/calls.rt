@@ -10,7 +10,7 @@ ghost use Rattle.tree_meaning.specs.declared.task.Task.TheVariants.{Value};
 ghost use Rattle.tree_meaning.specs.declared.task.ValueTask.TheVariants as task;
 ghost use Rattle.tree_meaning.specs.Stopping.{IsStop};
 ghost use Rattle.cfa.specs.declared.parts.Variable.{Variable as OneVariable};
-ghost use Rattle.typed_trees.specs.declared.expression.TypedCall.{out-TypedCall};
+ghost use Rattle.c_typed_trees.specs.declared.expression.TypedCall.{out-TypedCall};
 
 use crate::activation::Activation;
 use crate::agenda::Agenda;
@@ -23,10 +23,10 @@ use crate::stop::Stop;
 use crate::store::Store;
 use crate::task::{StatementTask, Task, ValueTask};
 use crate::way::Way;
+use c_typed_trees::{Callee, TypedCall, TypedExpr};
 use cfa::{Trap, Variable};
 use containers::Vector;
 use std::alloc::{AllocError, Global};
-use typed_trees::{Callee, TypedCall, TypedExpr};
 
 /// How many activations may stand.
 const MOST_ACTIVATIONS: u32 = 64;

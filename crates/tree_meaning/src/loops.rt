@@ -15,9 +15,9 @@ use crate::task::{
     DoLoop, DoStage, Loop, LoopStage, LoopStep, LoopTest, StatementTask, Task, ValueTask,
 };
 use crate::way::{Way, is_on};
+use c_typed_trees::{TypedExpr, TypedStatement};
 use containers::Boxed;
 use std::alloc::AllocError;
-use typed_trees::{TypedExpr, TypedStatement};
 
 /// A loop whose first part is done.
 #[tactic(auto, using(crate::proofs::LoopSteps::begin_laws))]

@@ -8,9 +8,9 @@ use crate::numbers::{fitted, operated};
 use crate::places::{element_at, start_of};
 use crate::scene::Scene;
 use crate::store::Store;
+use c_typed_trees::{TypedExpr, TypedExprForm, TypedPlace};
 use c_values::{Kind, convert, unary_value};
 use cfa::Trap;
-use typed_trees::{TypedExpr, TypedExprForm, TypedPlace};
 
 /// What the first of some values is in a kind, and the others.
 fn first_value(vs: &[u64], kind: Kind) -> (u64, &[u64])

@@ -6,7 +6,7 @@ ghost use Rattle.c_meaning.specs.Starts.{fitted_words};
 ghost use Rattle.c_values.specs.Kind.{is_kind, IsKind};
 ghost use Rattle.c_values.specs.declared.kinds.Kind.{Kind as OneKind};
 ghost use Rattle.cfa.specs.declared.parts.Variable.{Variable as OneVariable};
-ghost use Rattle.typed_trees.specs.Fitting.{global_cells, word_kinds};
+ghost use Rattle.c_typed_trees.specs.Fitting.{global_cells, word_kinds};
 ghost use Rattle.tree_meaning.specs.Activations.{as_kind};
 ghost use Rattle.tree_meaning.specs.Ends.{function_end, tree_end};
 ghost use Rattle.tree_meaning.specs.Running.{FitStatements, FitUnit};
@@ -25,11 +25,11 @@ use crate::store::Store;
 use crate::task::{StatementTask, Task};
 use crate::way::Way;
 use c_meaning::Input;
+use c_typed_trees::{Typed, TypedFunction};
 use c_values::Kind;
 use containers::Vector;
 use fq_core::Memory;
 use std::alloc::{AllocError, Global};
-use typed_trees::{Typed, TypedFunction};
 
 /// The first values of the file's variables.
 fn first_values(alloc: Global, typed: &Typed) -> Result<Vec<u64>, AllocError>

@@ -3,9 +3,9 @@ ghost use Rattle.std.specs.Prelude.{◌≡◌};
 ghost use Rattle.tree_meaning.specs.Running.{FitUnit};
 
 use crate::activation::Activation;
+use c_typed_trees::Typed;
 use std::alloc::Global;
 use std::marker::Model;
-use typed_trees::Typed;
 
 /// A unit, and the function of it that runs.
 #[derive(Drop)]
@@ -18,8 +18,8 @@ pub(crate) struct Scene<'a> {
 impl<'a> Model for Scene<'a> {
     ghost use Rattle.std.specs.Coded.{codes};
     ghost use Rattle.tree_meaning.specs.Running.{Scene as Place, FitUnit};
-    ghost use Rattle.typed_trees.specs.contracts.expression.TypedExprForm as e;
-    ghost use Rattle.typed_trees.specs.contracts.statement.TypedForm as f;
+    ghost use Rattle.c_typed_trees.specs.contracts.expression.TypedExprForm as e;
+    ghost use Rattle.c_typed_trees.specs.contracts.statement.TypedForm as f;
 
     ghost Value = { Place };
 

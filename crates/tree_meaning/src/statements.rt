@@ -27,11 +27,11 @@ use crate::task::{
     LoopTest, StatementTask, Task, ValueTask,
 };
 use crate::way::{Way, is_on};
+use c_typed_trees::{TypedExpr, TypedForm, TypedPlace, TypedStatement};
 use c_values::{BinaryOp, Kind, binary_kind, convert};
 use cfa::{Trap, Variable};
 use containers::{Boxed, Vector};
 use std::alloc::AllocError;
-use typed_trees::{TypedExpr, TypedForm, TypedPlace, TypedStatement};
 
 /// The declaration of an integer.
 #[tactic(auto, using(crate::proofs::StatementSteps::declare_laws))]

@@ -6,15 +6,15 @@ ghost use Rattle.tree_meaning.specs.Tasks.{Leads};
 ghost use Rattle.tree_meaning.specs.declared.task.GroupStage.TheVariants as group;
 ghost use Rattle.tree_meaning.specs.declared.task.StatementTask.TheVariants as task;
 ghost use Rattle.tree_meaning.specs.declared.task.Task.TheVariants.{Statement};
-ghost use Rattle.typed_trees.specs.declared.statement.TypedGroup.{out-TypedGroup};
+ghost use Rattle.c_typed_trees.specs.declared.statement.TypedGroup.{out-TypedGroup};
 
 use crate::agenda::Agenda;
 use crate::machine::Machine;
 use crate::task::{GroupStage, StatementTask, Task};
 use crate::way::{Way, is_on};
+use c_typed_trees::TypedGroup;
 use fq_core::Span;
 use std::alloc::AllocError;
-use typed_trees::TypedGroup;
 
 fn is_label(label: Option<u64>, own: Option<u64>) -> bool
     ensures { result ≡ is_label label own }

@@ -1,9 +1,9 @@
 // What is still to be done, in small steps.
 use crate::scene::Scene;
 use crate::way::Way;
+use c_typed_trees::{TypedCall, TypedExpr, TypedGroup, TypedPlace, TypedStatement};
 use c_values::{BinaryOp, Kind};
 use containers::{Boxed, Vector};
-use typed_trees::{TypedCall, TypedExpr, TypedGroup, TypedPlace, TypedStatement};
 
 /// One thing that is to be done. It takes what the machine holds, and leaves there what comes next.
 #[derive(Drop)]

@@ -10,9 +10,9 @@ use crate::machine::Machine;
 use crate::rest::rest;
 use crate::stop::Stop;
 use crate::task::{Task, ValueTask};
+use c_typed_trees::{TypedExpr, TypedExprForm, TypedPlace};
 use containers::Vector;
 use std::alloc::AllocError;
-use typed_trees::{TypedExpr, TypedExprForm, TypedPlace};
 
 /// The value of an expression.
 #[tactic(auto, using(crate::proofs::ValueSteps::evaluate_laws))]

@@ -2,16 +2,16 @@
 ghost use Rattle.std.specs.Prelude.{IfOk};
 ghost use Rattle.tree_meaning.specs.Running.{FitUnit};
 
+use c_front::typed_sources::typed_of_texts;
 use c_lex::{SourceText, are_small};
 use c_meaning::Input;
+use c_typed_trees::Typed;
 use containers::Vector;
 use fq_core::{Fault, Name};
 use std::alloc::Global;
 use std::fmt::Write;
 use std::test::Fail;
 use tree_meaning::{TreeEnd, tree_run};
-use typed_sources::typed_of_texts;
-use typed_trees::Typed;
 
 type Case = (
     &'static str,

@@ -8,7 +8,7 @@ use Rattle.std.proofs.lemmas.List.Sums.{sum_by-cons, sum_by-set}
 use Rattle.std.proofs.lemmas.Option.{get_or_from_slice_get, same_Some, slice_get_within}
 use Rattle.cfa.proofs.Eaches.{element_at}
 use Rattle.c_meaning.proofs.Slices.{slice_get_front, slice_get_kept, slice_get_last, slice_get_push, take_take}
-use Rattle.reached.specs.declared.step.Step.{Step}
+use Rattle.unwinder_reach.specs.declared.reached.step.Step.{Step}
 use Rattle.unwinder.specs.declared.arrival.Arrival.{Arrival}
 use Rattle.unwinder.specs.Putting.{PutCounts, PutFrom}
 

@@ -19,13 +19,13 @@ use Rattle.cfa.specs.Graph.{IsGraph}
 use Rattle.c_meaning.specs.declared.ends.Ends.{Ends}
 use Rattle.c_meaning.specs.declared.input.Input.{Input}
 use Rattle.c_meaning.specs.Starts.{fitted_words, start_of}
-use Rattle.reached.specs.declared.bounds.Bounds.{Bounds}
-use Rattle.reached.specs.declared.step.Step.{Step}
-use Rattle.reached.specs.Reaching.{AreReached}
+use Rattle.unwinder_reach.specs.declared.reached.bounds.Bounds.{Bounds}
+use Rattle.unwinder_reach.specs.declared.reached.step.Step.{Step}
+use Rattle.unwinder_reach.specs.reached.Reaching.{AreReached}
 use Rattle.sym_expr.specs.Stores.{cells_in}
-use Rattle.sym_steps.specs.declared.state.SymState.{SymState}
-use Rattle.sym_steps.specs.Steps.{state_in}
-use Rattle.input_words.specs.Worlds.{world_of}
+use Rattle.sym_expr.specs.declared.sym_steps.state.SymState.{SymState}
+use Rattle.sym_expr.specs.sym_steps.Steps.{state_in}
+use Rattle.unwinder.specs.input_words.Worlds.{world_of}
 use Rattle.unwinder.specs.declared.arrival.Arrival.{Arrival}
 use Rattle.unwinder.specs.Agenda.{AreArrivals, IsArrival, IsSymAt, IsWaiting}
 use Rattle.unwinder.specs.Frames.{IsAt}

@@ -12,8 +12,8 @@ use Rattle.cfa.specs.declared.parts.GraphParts.{GraphParts}
 use Rattle.cfa.specs.declared.state.Predicates.{Predicates}
 use Rattle.cfa.specs.Contexts.{Pair}
 use Rattle.c_meaning.specs.declared.ends.Ends.{Ends}
-use Rattle.reached.specs.declared.step.Step.{Step}
-use Rattle.sym_steps.specs.declared.state.SymState.{SymState}
+use Rattle.unwinder_reach.specs.declared.reached.step.Step.{Step}
+use Rattle.sym_expr.specs.declared.sym_steps.state.SymState.{SymState}
 use Rattle.unwinder.specs.declared.arrival.Arrival.{Arrival}
 use Rattle.unwinder.specs.declared.merging.Met.{Met}
 use Rattle.unwinder.specs.declared.taking.Place.{Place}

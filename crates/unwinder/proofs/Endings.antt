@@ -14,9 +14,9 @@ use Rattle.c_meaning.specs.declared.ends.Ends.TheVariants as counted
 use Rattle.c_meaning.specs.declared.stepped.Stepped.{Stepped}
 use Rattle.c_meaning.specs.declared.stepped.Stepped.TheVariants.{Moved, Returned, Trapped, Blocked, TooDeep}
 use Rattle.c_meaning.specs.Runs.{counts}
-use Rattle.sym_steps.specs.declared.state.SymStep.{SymStep}
-use Rattle.sym_steps.specs.declared.state.Way.{Way}
-use Rattle.sym_steps.specs.Steps.{Tells}
+use Rattle.sym_expr.specs.declared.sym_steps.state.SymStep.{SymStep}
+use Rattle.sym_expr.specs.declared.sym_steps.state.Way.{Way}
+use Rattle.sym_expr.specs.sym_steps.Steps.{Tells}
 
 -- one of the ways is taken in a world
 abbrev goes_on : List Gate → List Way → World → Bool

@@ -12,11 +12,11 @@ use Rattle.cfa.specs.Table.{ContinuesAt, outgoing_of}
 use Rattle.cfa.proofs.Eaches.{element_at}
 use Rattle.cfa.proofs.Exits.{given, taken}
 use Rattle.cfa.proofs.Places.{continues_tells, outgoing_tells}
-use Rattle.reached.specs.declared.bounds.Bounds.{Bounds}
-use Rattle.reached.specs.declared.step.Step.{Step}
-use Rattle.reached.specs.Reaching.{AreSteps}
-use Rattle.reached.specs.Searching.{AreWays, return_after, running_call}
-use Rattle.reached.proofs.WayLaws.{exit_ways}
+use Rattle.unwinder_reach.specs.declared.reached.bounds.Bounds.{Bounds}
+use Rattle.unwinder_reach.specs.declared.reached.step.Step.{Step}
+use Rattle.unwinder_reach.specs.reached.Reaching.{AreSteps}
+use Rattle.unwinder_reach.specs.reached.Searching.{AreWays, return_after, running_call}
+use Rattle.unwinder_reach.proofs.reached.WayLaws.{exit_ways}
 
 -- ---- a return leaves an exit
 

@@ -12,11 +12,11 @@ use Rattle.cfa.specs.Contexts.{Pair, first_pair}
 use Rattle.cfa.specs.Graph.{IsGraph}
 use Rattle.cfa.proofs.Eaches.{element_at}
 use Rattle.c_meaning.specs.declared.ends.Ends.{Ends}
-use Rattle.input_words.specs.Worlds.{world_length}
-use Rattle.reached.specs.declared.bounds.Bounds.{Bounds}
-use Rattle.reached.specs.declared.step.Step.{Step}
-use Rattle.reached.specs.Reaching.{AreReached}
-use Rattle.unwinding_size.specs.Sizes.{pairs_weight}
+use Rattle.unwinder.specs.input_words.Worlds.{world_length}
+use Rattle.unwinder_reach.specs.declared.reached.bounds.Bounds.{Bounds}
+use Rattle.unwinder_reach.specs.declared.reached.step.Step.{Step}
+use Rattle.unwinder_reach.specs.reached.Reaching.{AreReached}
+use Rattle.unwinder_reach.specs.unwinding_size.Sizes.{pairs_weight}
 use Rattle.unwinder.specs.declared.arrival.Arrival.{Arrival}
 use Rattle.unwinder.specs.declared.unwound.Entry.{Entry}
 use Rattle.unwinder.specs.Lists.{ListsRuns}

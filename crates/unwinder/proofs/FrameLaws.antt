@@ -18,8 +18,8 @@ use Rattle.cfa.proofs.Exits.{taken}
 use Rattle.c_meaning.specs.Starts.{CanStart, start_of}
 use Rattle.c_meaning.proofs.Begun.{start_state}
 use Rattle.c_meaning.proofs.PairLaws.{first_fits}
-use Rattle.sym_steps.specs.Steps.{frames_next}
-use Rattle.unwinding_size.specs.Sizes.{store_cells, frame_cells, function_of_call, cells_of as option_cells}
+use Rattle.sym_expr.specs.sym_steps.Steps.{frames_next}
+use Rattle.unwinder_reach.specs.unwinding_size.Sizes.{store_cells, frame_cells, function_of_call, cells_of as option_cells}
 use Rattle.unwinder.proofs.Lent.{lent_first, lent_next}
 use Rattle.unwinder.proofs.Lists.{same_lists, same_shown, same_sums, sum_by-map, sum_by-reverse}
 use Rattle.unwinder.proofs.FrameSteps.{call_in, call_from, calls_next, owner_next}

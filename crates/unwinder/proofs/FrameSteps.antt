@@ -18,7 +18,7 @@ use Rattle.c_meaning.specs.Steps.{called_frame, start_in}
 use Rattle.c_meaning.proofs.Leaving.{returns_of}
 use Rattle.c_meaning.proofs.Slices.{slice_get_front, slice_get_last, slice_get_kept}
 use Rattle.c_meaning.proofs.StateLaws.{last_split, running}
-use Rattle.sym_steps.specs.Steps.{frames_next}
+use Rattle.sym_expr.specs.sym_steps.Steps.{frames_next}
 use Rattle.unwinder.proofs.Owners.{above, first_alone, first_called}
 use Rattle.unwinder.specs.Frames.{IsAt}
 

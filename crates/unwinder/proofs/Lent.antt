@@ -16,7 +16,7 @@ use Rattle.cfa.specs.Values.{array_start}
 use Rattle.c_meaning.specs.Starts.{first_frame}
 use Rattle.c_meaning.specs.Steps.{called_frame, start_in}
 use Rattle.c_meaning.proofs.Slices.{slice_get_front, slice_get_push, slice_get_taken}
-use Rattle.sym_steps.specs.Steps.{frames_next}
+use Rattle.sym_expr.specs.sym_steps.Steps.{frames_next}
 use Rattle.unwinder.proofs.Lists.{map_alike}
 use Rattle.unwinder.specs.Frames.{AreLent, lent_by}
 

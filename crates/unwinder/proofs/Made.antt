@@ -23,14 +23,14 @@ use Rattle.cfa.specs.Predicates.{IsPredicates}
 use Rattle.c_meaning.specs.declared.ends.Ends.{Ends}
 use Rattle.c_meaning.specs.declared.input.Input.{Input}
 use Rattle.c_meaning.specs.Starts.{fitted_words}
-use Rattle.input_words.specs.Inputs.{AreInputs, first_input}
-use Rattle.input_words.specs.Laws.{InputsStay}
-use Rattle.input_words.specs.Worlds.{world_length, world_of}
-use Rattle.reached.specs.declared.bounds.Bounds.{Bounds}
-use Rattle.reached.specs.declared.step.Step.{Step}
-use Rattle.reached.specs.Reaching.{AreReached}
+use Rattle.unwinder.specs.input_words.Inputs.{AreInputs, first_input}
+use Rattle.unwinder.specs.input_words.Laws.{InputsStay}
+use Rattle.unwinder.specs.input_words.Worlds.{world_length, world_of}
+use Rattle.unwinder_reach.specs.declared.reached.bounds.Bounds.{Bounds}
+use Rattle.unwinder_reach.specs.declared.reached.step.Step.{Step}
+use Rattle.unwinder_reach.specs.reached.Reaching.{AreReached}
 use Rattle.sym_expr.specs.Stores.{cells_in}
-use Rattle.unwinding_size.specs.Sizes.{size_sum}
+use Rattle.unwinder_reach.specs.unwinding_size.Sizes.{size_sum}
 use Rattle.unwinder.specs.declared.unwound.Entry.{Entry}
 use Rattle.unwinder.specs.declared.unwound.Unwound.{Unwound}
 use Rattle.unwinder.specs.Progress.{CanUnwind, UnwindsAll}

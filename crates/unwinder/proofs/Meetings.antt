@@ -17,8 +17,8 @@ use Rattle.cfa.proofs.Eaches.{element_at}
 use Rattle.c_meaning.proofs.Slices.{slice_get_front, slice_get_last, slice_get_push, slice_get_taken}
 use Rattle.sym_expr.specs.Stores.{cells_in}
 use Rattle.sym_expr.proofs.ElementLemmas.{cells_later, cells_still}
-use Rattle.sym_steps.specs.declared.state.SymState.{SymState}
-use Rattle.sym_steps.specs.Steps.{state_in}
+use Rattle.sym_expr.specs.declared.sym_steps.state.SymState.{SymState}
+use Rattle.sym_expr.specs.sym_steps.Steps.{state_in}
 use Rattle.unwinder.specs.declared.arrival.Arrival.{Arrival}
 use Rattle.unwinder.specs.declared.merging.Met.{Met}
 use Rattle.unwinder.specs.Agenda.{IsArrival, IsSymAt, TakenAlone}

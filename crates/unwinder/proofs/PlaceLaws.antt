@@ -27,14 +27,14 @@ use Rattle.c_meaning.specs.declared.stepped.Stepped.{Stepped}
 use Rattle.c_meaning.specs.declared.stepped.Stepped.TheVariants.{Moved}
 use Rattle.c_meaning.specs.Runs.{counts}
 use Rattle.c_meaning.specs.Steps.{next}
-use Rattle.reached.specs.declared.step.Step.{Step}
+use Rattle.unwinder_reach.specs.declared.reached.step.Step.{Step}
 use Rattle.sym_expr.specs.Stores.{cells_in}
 use Rattle.sym_expr.proofs.ElementLemmas.{cells_later, cells_still}
-use Rattle.sym_steps.specs.declared.state.SymState.{SymState}
-use Rattle.sym_steps.specs.declared.state.SymStep.{SymStep}
-use Rattle.sym_steps.specs.declared.state.Way.{Way}
-use Rattle.sym_steps.specs.Steps as steps
-use Rattle.sym_steps.specs.Steps.{Agrees, HasWay, IfAlong, IsStep, LeadsTo, frames_next, goes_along, state_after, state_in}
+use Rattle.sym_expr.specs.declared.sym_steps.state.SymState.{SymState}
+use Rattle.sym_expr.specs.declared.sym_steps.state.SymStep.{SymStep}
+use Rattle.sym_expr.specs.declared.sym_steps.state.Way.{Way}
+use Rattle.sym_expr.specs.sym_steps.Steps as steps
+use Rattle.sym_expr.specs.sym_steps.Steps.{Agrees, HasWay, IfAlong, IsStep, LeadsTo, frames_next, goes_along, state_after, state_in}
 use Rattle.unwinder.specs.declared.arrival.Arrival.{Arrival}
 use Rattle.unwinder.specs.declared.merging.Met.{Met}
 use Rattle.unwinder.specs.declared.unwound.Entry.{Entry}

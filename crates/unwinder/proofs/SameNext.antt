@@ -17,7 +17,7 @@ use Rattle.c_meaning.specs.declared.input.Input.{Input}
 use Rattle.c_meaning.specs.declared.stepped.Stepped.{Stepped}
 use Rattle.c_meaning.specs.declared.stepped.Stepped.TheVariants.{Moved, Returned, Trapped, Blocked, TooDeep}
 use Rattle.c_meaning.specs.Steps.{along, along_edge, answer_of, answered, call_of, cell_in, function_at, left, moved, next, next_within, onward, operated, picked, picked_by, put, unless_trapped, values_in}
-use Rattle.reached.specs.Searching.{is_answer}
+use Rattle.unwinder_reach.specs.reached.Searching.{is_answer}
 use Rattle.std.specs.Prelude.{length, nat_le}
 
 -- it goes on along this edge, if it does

@@ -29,20 +29,20 @@ use Rattle.c_meaning.specs.Runs.{last_in}
 use Rattle.c_meaning.specs.Steps.{next}
 use Rattle.c_meaning.proofs.Longest.{longest_by_ends}
 use Rattle.c_meaning.proofs.PairLaws.{steps_follow}
-use Rattle.reached.specs.declared.bounds.Bounds.{Bounds}
-use Rattle.reached.specs.declared.step.Step.{Step}
-use Rattle.reached.specs.Reaching.{AreReached, LeadsOn}
-use Rattle.reached.specs.Searching.{is_answer}
+use Rattle.unwinder_reach.specs.declared.reached.bounds.Bounds.{Bounds}
+use Rattle.unwinder_reach.specs.declared.reached.step.Step.{Step}
+use Rattle.unwinder_reach.specs.reached.Reaching.{AreReached, LeadsOn}
+use Rattle.unwinder_reach.specs.reached.Searching.{is_answer}
 use Rattle.sym_expr.specs.Stores.{cells_in}
 use Rattle.sym_expr.proofs.ElementLemmas.{cells_later}
-use Rattle.sym_steps.specs.declared.state.SymState.{SymState}
-use Rattle.sym_steps.specs.Steps.{Agrees, goes_along}
+use Rattle.sym_expr.specs.declared.sym_steps.state.SymState.{SymState}
+use Rattle.sym_expr.specs.sym_steps.Steps.{Agrees, goes_along}
 use Rattle.unwinder.specs.declared.arrival.Arrival.{Arrival}
 use Rattle.unwinder.specs.declared.unwound.Entry.{Entry}
 use Rattle.unwinder.specs.Agenda.{AreArrivals, ArrivesAlone, IsOnward, IsTold, IsWaiting, NoneArrives, Puts, Stands, TakenAlone, TakesIn, entry_at, state_at}
 use Rattle.unwinder.specs.Lists.{IsInputFor, Reached, Tells, after_move, entries_in, reached_in}
 use Rattle.unwinder.specs.Unwinding.{IsEntry}
-use Rattle.input_words.specs.Worlds.{world_of}
+use Rattle.unwinder.specs.input_words.Worlds.{world_of}
 use Rattle.unwinder.proofs.LastStates.{last_fits, last_is_state}
 use Rattle.unwinder.proofs.ListLaws.{not_yes, zip_at, zip_push}
 use Rattle.unwinder.proofs.RunPush.{longer, longer_begins, longer_last, longer_pair, longer_within}

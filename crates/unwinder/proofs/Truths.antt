@@ -31,10 +31,10 @@ use Rattle.c_meaning.proofs.StateLaws.{running}
 use Rattle.path_runner.specs.Masks.{expr_holds, holds, is_nonzero}
 use Rattle.sym_expr.specs.Stores.{FitsWithin}
 use Rattle.sym_expr.proofs.ElementLemmas.{cells_later}
-use Rattle.sym_steps.specs.declared.state.SymState.{SymState}
-use Rattle.sym_steps.specs.Steps.{AreStates, running_of, state_in}
-use Rattle.sym_steps.proofs.StepLemmas.{fits_here}
-use Rattle.unwinding_size.specs.Sizes.{meaning_weight, node_weight, predicates_weight}
+use Rattle.sym_expr.specs.declared.sym_steps.state.SymState.{SymState}
+use Rattle.sym_expr.specs.sym_steps.Steps.{AreStates, running_of, state_in}
+use Rattle.sym_expr.proofs.sym_steps.StepLemmas.{fits_here}
+use Rattle.unwinder_reach.specs.unwinding_size.Sizes.{meaning_weight, node_weight, predicates_weight}
 use Rattle.unwinder.specs.Lists.{truths_at, truths_in}
 
 -- ---- one predicate

@@ -22,13 +22,13 @@ use Rattle.cfa.specs.Predicates.{IsPredicates}
 use Rattle.cfa.proofs.Eaches.{element_at}
 use Rattle.c_meaning.specs.declared.ends.Ends.{Ends}
 use Rattle.c_meaning.specs.declared.input.Input.{Input}
-use Rattle.input_words.specs.Worlds.{world_of}
-use Rattle.reached.specs.declared.bounds.Bounds.{Bounds}
-use Rattle.reached.specs.declared.step.Step.{Step}
-use Rattle.reached.specs.Reaching.{AreReached, AreSteps}
+use Rattle.unwinder.specs.input_words.Worlds.{world_of}
+use Rattle.unwinder_reach.specs.declared.reached.bounds.Bounds.{Bounds}
+use Rattle.unwinder_reach.specs.declared.reached.step.Step.{Step}
+use Rattle.unwinder_reach.specs.reached.Reaching.{AreReached, AreSteps}
 use Rattle.sym_expr.proofs.ElementLemmas.{cells_later, cells_still}
-use Rattle.sym_steps.specs.Steps.{Agrees}
-use Rattle.unwinding_size.specs.Sizes.{pair_weight, pairs_weight, size_sum, steps_into, store_cells}
+use Rattle.sym_expr.specs.sym_steps.Steps.{Agrees}
+use Rattle.unwinder_reach.specs.unwinding_size.Sizes.{pair_weight, pairs_weight, size_sum, steps_into, store_cells}
 use Rattle.unwinder.specs.declared.arrival.Arrival.{Arrival}
 use Rattle.unwinder.specs.declared.unwound.Entry.{Entry}
 use Rattle.unwinder.specs.Agenda.{AreArrivals, IsArrival, Puts, Stands, entry_at}

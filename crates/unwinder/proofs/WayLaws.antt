@@ -16,10 +16,10 @@ use Rattle.bit_words.proofs.Values.{no_holds}
 use Rattle.cfa.specs.declared.parts.GraphParts.{GraphParts}
 use Rattle.c_meaning.specs.declared.stepped.Stepped.{Stepped}
 use Rattle.c_meaning.specs.declared.stepped.Stepped.TheVariants.{Moved, Returned, Trapped, Blocked, TooDeep}
-use Rattle.reached.specs.declared.step.Step.{Step}
-use Rattle.sym_steps.specs.declared.state.SymState.{SymState}
-use Rattle.sym_steps.specs.declared.state.Way.{Way}
-use Rattle.sym_steps.specs.Steps.{goes_along}
+use Rattle.unwinder_reach.specs.declared.reached.step.Step.{Step}
+use Rattle.sym_expr.specs.declared.sym_steps.state.SymState.{SymState}
+use Rattle.sym_expr.specs.declared.sym_steps.state.Way.{Way}
+use Rattle.sym_expr.specs.sym_steps.Steps.{goes_along}
 use Rattle.unwinder.specs.declared.arrival.Arrival.{Arrival}
 use Rattle.unwinder.specs.Onward.{IsAlong, LeadsAlong, WaysTell}
 use Rattle.unwinder.proofs.ListLaws.{zip_change, zip_push}

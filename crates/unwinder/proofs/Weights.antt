@@ -7,8 +7,8 @@ use Rattle.cfa.specs.declared.parts.Function.{Function}
 use Rattle.cfa.specs.declared.parts.GraphParts.{GraphParts}
 use Rattle.cfa.specs.declared.state.Predicates.{Predicates}
 use Rattle.cfa.specs.Contexts.{Pair}
-use Rattle.reached.specs.declared.step.Step.{Step}
-use Rattle.unwinding_size.specs.Sizes.{pair_weight, pairs_weight, size_sum}
+use Rattle.unwinder_reach.specs.declared.reached.step.Step.{Step}
+use Rattle.unwinder_reach.specs.unwinding_size.Sizes.{pair_weight, pairs_weight, size_sum}
 
 module _ (parts : GraphParts) (predicates : Predicates) (first : Function) (steps : List (List Step)) where
   from_more : (i n : ℕ) (pairs : List Pair) (p : Pair) → slice_get pairs n ≡ Some p → pairs_weight parts predicates first steps i (take (suc n) pairs) ≡ pairs_weight parts predicates first steps i (take n pairs) + pair_weight parts predicates first steps (i + n) p

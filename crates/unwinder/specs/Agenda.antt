@@ -16,16 +16,16 @@ use Rattle.c_meaning.specs.declared.stepped.Stepped.TheVariants.{Moved}
 use Rattle.c_meaning.specs.Pairs.{IsLongestWithin, IsRunWithin, last_pair_in}
 use Rattle.c_meaning.specs.Runs.{IsBeginning, Run, counts, last_in}
 use Rattle.c_meaning.specs.Steps.{next}
-use Rattle.reached.specs.declared.bounds.Bounds.{Bounds}
-use Rattle.reached.specs.declared.step.Step.{Step}
+use Rattle.unwinder_reach.specs.declared.reached.bounds.Bounds.{Bounds}
+use Rattle.unwinder_reach.specs.declared.reached.step.Step.{Step}
 use Rattle.sym_expr.specs.Stores.{cells_in}
-use Rattle.sym_steps.specs.declared.state.SymState.{SymState}
-use Rattle.sym_steps.specs.Steps.{Agrees, goes_along, state_in}
+use Rattle.sym_expr.specs.declared.sym_steps.state.SymState.{SymState}
+use Rattle.sym_expr.specs.sym_steps.Steps.{Agrees, goes_along, state_in}
 use Rattle.unwinder.specs.declared.arrival.Arrival.{Arrival}
 use Rattle.unwinder.specs.declared.unwound.Entry.{Entry}
 use Rattle.unwinder.specs.Frames.{IsAt}
 use Rattle.unwinder.specs.Lists.{Reached, Tells, entries_in, reached_in, truths_in}
-use Rattle.input_words.specs.Worlds.{world_of}
+use Rattle.unwinder.specs.input_words.Worlds.{world_of}
 
 -- ---- arrivals
 

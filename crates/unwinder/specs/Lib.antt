@@ -8,3 +8,4 @@ pub mod Place
 pub mod Putting
 pub mod Progress
 pub mod Guards
+pub mod input_words

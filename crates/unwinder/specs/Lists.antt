@@ -16,9 +16,9 @@ use Rattle.c_meaning.specs.Pairs.{IsLongestWithin}
 use Rattle.c_meaning.specs.Starts.{CanStart}
 use Rattle.c_meaning.specs.Steps.{next}
 use Rattle.path_runner.specs.Masks.{holds}
-use Rattle.reached.specs.declared.bounds.Bounds.{Bounds}
+use Rattle.unwinder_reach.specs.declared.reached.bounds.Bounds.{Bounds}
 use Rattle.unwinder.specs.declared.unwound.Entry.{Entry}
-use Rattle.input_words.specs.Worlds.{world_of}
+use Rattle.unwinder.specs.input_words.Worlds.{world_of}
 
 -- the truth of each predicate in a state at a node
 abbrev pub truths_at : Predicates → State → Option Node → List Bool

@@ -8,8 +8,8 @@ use Rattle.cfa.specs.declared.parts.Function.{Function}
 use Rattle.cfa.specs.declared.parts.GraphParts.{GraphParts}
 use Rattle.cfa.specs.Contexts.{Pair}
 use Rattle.sym_expr.specs.Stores.{cells_in}
-use Rattle.sym_steps.specs.declared.state.SymState.{SymState}
-use Rattle.unwinding_size.specs.Sizes.{store_cells}
+use Rattle.sym_expr.specs.declared.sym_steps.state.SymState.{SymState}
+use Rattle.unwinder_reach.specs.unwinding_size.Sizes.{store_cells}
 use Rattle.unwinder.specs.declared.arrival.Arrival.{Arrival}
 use Rattle.unwinder.specs.declared.merging.Met.{Met}
 use Rattle.unwinder.specs.Agenda.{IsArrival, IsSymAt, TakenAlone}

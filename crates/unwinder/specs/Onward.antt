@@ -10,9 +10,9 @@ use Rattle.cfa.specs.declared.state.State.{State}
 use Rattle.cfa.specs.Each.{Each}
 use Rattle.c_meaning.specs.declared.stepped.Stepped.{Stepped}
 use Rattle.c_meaning.specs.declared.stepped.Stepped.TheVariants.{Moved}
-use Rattle.sym_steps.specs.declared.state.SymState.{SymState}
-use Rattle.sym_steps.specs.declared.state.Way.{Way}
-use Rattle.sym_steps.specs.Steps.{goes_along}
+use Rattle.sym_expr.specs.declared.sym_steps.state.SymState.{SymState}
+use Rattle.sym_expr.specs.declared.sym_steps.state.Way.{Way}
+use Rattle.sym_expr.specs.sym_steps.Steps.{goes_along}
 use Rattle.unwinder.specs.declared.arrival.Arrival.{Arrival}
 
 -- a way along the edge of a number

@@ -10,10 +10,10 @@ use Rattle.cfa.specs.declared.parts.GraphParts.{GraphParts}
 use Rattle.cfa.specs.declared.state.Predicates.{Predicates}
 use Rattle.cfa.specs.Contexts.{Follows, Pair}
 use Rattle.c_meaning.specs.declared.ends.Ends.{Ends}
-use Rattle.reached.specs.declared.step.Step.{Step}
+use Rattle.unwinder_reach.specs.declared.reached.step.Step.{Step}
 use Rattle.sym_expr.specs.Weights.{operations_weight}
-use Rattle.sym_steps.specs.Weights.{most_step_wires}
-use Rattle.unwinding_size.specs.Sizes.{predicates_weight}
+use Rattle.sym_expr.specs.sym_steps.Weights.{most_step_wires}
+use Rattle.unwinder_reach.specs.unwinding_size.Sizes.{predicates_weight}
 use Rattle.unwinder.specs.declared.arrival.Arrival.{Arrival}
 use Rattle.unwinder.specs.declared.merging.Met.{Met}
 use Rattle.unwinder.specs.declared.taking.Place.{Place}

@@ -12,12 +12,12 @@ use Rattle.cfa.specs.Each.{Each}
 use Rattle.cfa.specs.Predicates.{IsPredicates}
 use Rattle.c_meaning.specs.declared.ends.Ends.{Ends}
 use Rattle.c_meaning.specs.declared.input.Input.{Input}
-use Rattle.reached.specs.declared.bounds.Bounds.{Bounds}
-use Rattle.reached.specs.declared.step.Step.{Step}
-use Rattle.reached.specs.Reaching.{AreReached}
-use Rattle.sym_steps.specs.Steps.{Agrees}
-use Rattle.unwinding_size.specs.Sizes.{pairs_weight, size_sum, steps_into}
-use Rattle.input_words.specs.Worlds.{world_of}
+use Rattle.unwinder_reach.specs.declared.reached.bounds.Bounds.{Bounds}
+use Rattle.unwinder_reach.specs.declared.reached.step.Step.{Step}
+use Rattle.unwinder_reach.specs.reached.Reaching.{AreReached}
+use Rattle.sym_expr.specs.sym_steps.Steps.{Agrees}
+use Rattle.unwinder_reach.specs.unwinding_size.Sizes.{pairs_weight, size_sum, steps_into}
+use Rattle.unwinder.specs.input_words.Worlds.{world_of}
 use Rattle.unwinder.specs.declared.arrival.Arrival.{Arrival}
 use Rattle.unwinder.specs.declared.taking.Place.{Place}
 use Rattle.unwinder.specs.declared.unwound.Entry.{Entry}

@@ -1,7 +1,7 @@
 -- How arrivals are put into the rows of an agenda, one for each of some steps.
 use Rattle.std.specs.Prelude.{◌≡◌, ◌⊎◌, ℕ, ◌+◌, ◌-◌, ◌≤◌, ◌==◌, count_by, List, length, Some, slice_get, sum_by}
 use Rattle.std.proofs.Common.{drop}
-use Rattle.reached.specs.declared.step.Step.{Step}
+use Rattle.unwinder_reach.specs.declared.reached.step.Step.{Step}
 use Rattle.unwinder.specs.declared.arrival.Arrival.{Arrival}
 
 -- the arrivals of the steps from a number on were put into rows

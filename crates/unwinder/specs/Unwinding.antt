@@ -14,12 +14,12 @@ use Rattle.cfa.specs.declared.state.Predicates.{Predicates}
 use Rattle.cfa.specs.Contexts.{Pair}
 use Rattle.cfa.specs.Each.{Each}
 use Rattle.c_meaning.specs.declared.ends.Ends.{Ends}
-use Rattle.input_words.specs.Inputs.{AreInputs, first_input}
-use Rattle.input_words.specs.Worlds.{world_length}
-use Rattle.reached.specs.declared.bounds.Bounds.{Bounds}
-use Rattle.reached.specs.declared.step.Step.{Step}
-use Rattle.reached.specs.Reaching.{AreReached, AreTooMany}
-use Rattle.unwinding_size.specs.Sizes.{size_sum}
+use Rattle.unwinder.specs.input_words.Inputs.{AreInputs, first_input}
+use Rattle.unwinder.specs.input_words.Worlds.{world_length}
+use Rattle.unwinder_reach.specs.declared.reached.bounds.Bounds.{Bounds}
+use Rattle.unwinder_reach.specs.declared.reached.step.Step.{Step}
+use Rattle.unwinder_reach.specs.reached.Reaching.{AreReached, AreTooMany}
+use Rattle.unwinder_reach.specs.unwinding_size.Sizes.{size_sum}
 use Rattle.unwinder.specs.declared.unwound.Entry.{Entry}
 use Rattle.unwinder.specs.declared.unwound.Unwound.{Unwound}
 use Rattle.unwinder.specs.Lists.{ListsRuns}

@@ -6,9 +6,9 @@ ghost use Rattle.unwinder.specs.Putting.{PutCounts, PutFrom};
 
 use crate::arrival::Arrival;
 use containers::Vector;
-use reached::Step;
 use std::alloc::{AllocError, Global};
 use std::mem;
+use unwinder_reach::reached::Step;
 
 /// The ways that wait at a place, where none waits any longer.
 pub(crate) fn row_at(

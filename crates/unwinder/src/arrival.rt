@@ -1,6 +1,6 @@
 // The ways into the places of an unwinding.
 use circuit::Lit;
-use sym_steps::SymState;
+use sym_expr::sym_steps::SymState;
 
 /// A way into a place: that of the start, or along an edge.
 #[derive(Drop)]

@@ -5,7 +5,7 @@ use cfa::Frame;
 use containers::{TryClone, Vector};
 use std::alloc::{AllocError, Global};
 use sym_expr::SymStore;
-use sym_steps::SymState;
+use sym_expr::sym_steps::SymState;
 
 fn copied_frames(alloc: Global, frames: &[Frame]) -> Result<Vector<Frame>, AllocError>
     ensures { IfOk result (λ copy. copy ≡ frames.now) }

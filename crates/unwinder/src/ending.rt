@@ -7,12 +7,12 @@ ghost use Rattle.circuit.specs.Wires.{IsWire, lit_holds};
 ghost use Rattle.bit_words.specs.Words.{Grows};
 ghost use Rattle.c_meaning.specs.declared.stepped.Stepped.{Stepped};
 ghost use Rattle.c_meaning.specs.Runs.{counts};
-ghost use Rattle.sym_steps.specs.Steps.{Tells};
+ghost use Rattle.sym_expr.specs.sym_steps.Steps.{Tells};
 
 use bit_words::gates::{either, inverse};
 use c_meaning::Ends;
 use circuit::{Circuit, Lit, Memory};
-use sym_steps::{SymStep, Way};
+use sym_expr::sym_steps::{SymStep, Way};
 
 /// A literal that holds where the run goes on along one of the ways, of which there are at most two.
 fn some_way(circuit: &mut Circuit, ways: &[Way]) -> Result<Lit, Memory>

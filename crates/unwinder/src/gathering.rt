@@ -11,8 +11,8 @@ use crate::copying::copied;
 use crate::merging::{Met, joined};
 use cfa::Graph;
 use circuit::{Circuit, Memory};
-use reached::NodeInContext;
 use std::alloc::Global;
+use unwinder_reach::reached::NodeInContext;
 
 /// One way more.
 fn with_arrival(

@@ -12,6 +12,10 @@
 //! every input's run), and for the parts below `Frames`, `Agenda`, `Meeting`, `Guards`, `Onward`, `Place`, `Putting` and `Progress`.
 //! The crate stands on `reached` for pairs and steps, on `unwinding_size` for the bound on wires, on `input_words` for
 //! worlds, and on `sym_steps` and `sym_expr` for states and expressions as words over a circuit.
+//!
+//! It has these modules too:
+//!
+//! - [`input_words`]: The inputs of all runs of a function, as words over a circuit.
 #![tactic(auto)]
 
 mod agenda;
@@ -20,6 +24,7 @@ mod copying;
 mod ending;
 mod gathering;
 mod guards;
+pub mod input_words;
 mod merging;
 mod onward;
 mod taking;

@@ -8,8 +8,8 @@ ghost use Rattle.sym_expr.specs.Stores.{cells_in};
 use crate::guards::either_guard;
 use bit_words::{Word, choose};
 use circuit::{Circuit, Lit, Memory};
+use sym_expr::sym_steps::SymState;
 use sym_expr::{SymStore, is_same_word};
-use sym_steps::SymState;
 
 /// A symbolic state, and a literal that holds in the worlds in which runs come to it.
 #[derive(Drop)]

@@ -6,8 +6,8 @@ ghost use Rattle.circuit.specs.Wires.{IsWire};
 ghost use Rattle.circuit.specs.declared.lit.Lit.{Lit as OneLit};
 ghost use Rattle.bit_words.specs.Words.{Grows};
 ghost use Rattle.cfa.specs.Each.{Each};
-ghost use Rattle.sym_steps.specs.declared.state.Way.{Way as OneWay};
-ghost use Rattle.reached.specs.declared.step.Step.{Step as OneStep};
+ghost use Rattle.sym_expr.specs.declared.sym_steps.state.Way.{Way as OneWay};
+ghost use Rattle.unwinder_reach.specs.declared.reached.step.Step.{Step as OneStep};
 ghost use Rattle.unwinder.specs.Onward.{IsAlong, LeadsAlong};
 
 use crate::arrival::Arrival;
@@ -16,9 +16,9 @@ use bit_words::gates::both;
 use cfa::Graph;
 use circuit::{Circuit, Lit, Memory, Truth};
 use containers::Vector;
-use reached::Step;
 use std::alloc::Global;
-use sym_steps::{SymState, Way};
+use sym_expr::sym_steps::{SymState, Way};
+use unwinder_reach::reached::Step;
 
 /// The literal that holds where a step goes along an edge, none where no way leads along it.
 fn taken_along(ways: &[Way], edge: u32) -> Option<Lit>

@@ -7,8 +7,8 @@ ghost use Rattle.bit_words.specs.Words.{Grows};
 ghost use Rattle.cfa.specs.Each.{Each};
 ghost use Rattle.cfa.specs.Predicates.{IsPredicates};
 ghost use Rattle.sym_expr.specs.Weights.{operations_weight};
-ghost use Rattle.sym_steps.specs.Weights.{most_step_wires};
-ghost use Rattle.unwinding_size.specs.Sizes.{predicates_weight};
+ghost use Rattle.sym_expr.specs.sym_steps.Weights.{most_step_wires};
+ghost use Rattle.unwinder_reach.specs.unwinding_size.Sizes.{predicates_weight};
 ghost use Rattle.unwinder.specs.Agenda.{IsArrival, IsSymAt, entry_at};
 ghost use Rattle.unwinder.specs.Meeting.{IsMet};
 ghost use Rattle.unwinder.specs.Place.{IsClosedPlace, IsOpenPlace, IsPlace, closed_step, most_open_wires, most_place_wires};
@@ -25,9 +25,9 @@ use c_meaning::Ends;
 use cfa::{Graph, Predicates};
 use circuit::{Circuit, Lit, Memory, Truth};
 use containers::Vector;
-use reached::{NodeInContext, Step};
 use std::alloc::{AllocError, Global};
-use sym_steps::{SymState, SymStep, step};
+use sym_expr::sym_steps::{SymState, SymStep, step};
+use unwinder_reach::reached::{NodeInContext, Step};
 
 /// What taking a place gives: an entry for each way into it, and an arrival for each step from it.
 #[derive(Drop)]

@@ -10,8 +10,8 @@ ghost use Rattle.bit_words.specs.Words.{Grows};
 ghost use Rattle.path_runner.specs.Masks.{holds, is_nonzero};
 ghost use Rattle.sym_expr.specs.Stores.{FitsWithin};
 ghost use Rattle.sym_expr.specs.Weights.{weight_of};
-ghost use Rattle.sym_steps.specs.Steps.{AreStates, running_of, state_in};
-ghost use Rattle.unwinding_size.specs.Sizes.{meaning_weight, predicates_weight};
+ghost use Rattle.sym_expr.specs.sym_steps.Steps.{AreStates, running_of, state_in};
+ghost use Rattle.unwinder_reach.specs.unwinding_size.Sizes.{meaning_weight, predicates_weight};
 ghost use Rattle.unwinder.specs.Lists.{truths_in};
 
 use bit_words::gates::both;
@@ -20,7 +20,7 @@ use circuit::{Circuit, Lit, Memory};
 use containers::Vector;
 use std::alloc::Global;
 use sym_expr::condition;
-use sym_steps::SymState;
+use sym_expr::sym_steps::SymState;
 
 /// A literal that holds where a condition has a value other than 0 in a state (ISO/IEC 9899:2011, 6.8.4.1p2).
 fn held_condition(circuit: &mut Circuit, test: &Expr, state: &SymState) -> Result<Lit, Memory>

@@ -4,13 +4,14 @@ ghost use Rattle.std.specs.Option.{IsSomeAnd};
 ghost use Rattle.cfa.specs.declared.parts.Function.{Function as OneFunction};
 ghost use Rattle.cfa.specs.Contexts.{IsOnce};
 ghost use Rattle.cfa.specs.Predicates.{IsPredicates};
-ghost use Rattle.reached.specs.Reaching.{AreReached};
-ghost use Rattle.unwinding_size.specs.Sizes.{size_sum};
+ghost use Rattle.unwinder_reach.specs.reached.Reaching.{AreReached};
+ghost use Rattle.unwinder_reach.specs.unwinding_size.Sizes.{size_sum};
 ghost use Rattle.unwinder.specs.Progress.{CanTake, CanUnwind, TakesPlace, Unwinds, UnwindsAll, begun};
 ghost use Rattle.unwinder.specs.Unwinding.{IsUnwindFault, IsUnwound};
 
 use crate::agenda::{put_all, row_at};
 use crate::arrival::Arrival;
+use crate::input_words::{InputWords, inputs, inputs_stay};
 use crate::taking::{Place, taken};
 use crate::unwound::{Entry, Unwound};
 use bit_words::Word;
@@ -19,11 +20,10 @@ use cfa::{Graph, Predicates};
 use circuit::{Circuit, Lit, Memory};
 use containers::Vector;
 use fq_core::Fault;
-use input_words::{InputWords, inputs, inputs_stay};
-use reached::{Bounds, NodeInContext, Reached, Step, reached};
 use std::alloc::{AllocError, Global};
-use sym_steps::start;
-use unwinding_size::size_of_unwinding;
+use sym_expr::sym_steps::start;
+use unwinder_reach::reached::{Bounds, NodeInContext, Reached, Step, reached};
+use unwinder_reach::unwinding_size::size_of_unwinding;
 
 /// The agenda on which one way waits, at the first of so many places.
 fn agenda_of(

@@ -3,7 +3,7 @@ use bit_words::Word;
 use c_meaning::Ends;
 use circuit::{Circuit, Lit};
 use containers::Vector;
-use reached::Bounds;
+use unwinder_reach::reached::Bounds;
 
 /// A state that runs may be in: the start, or the end of an edge into a pair of node and context.
 #[derive(Drop)]

@@ -2,4 +2,6 @@
 #![tactic(auto)]
 
 #[cfg(test)]
+mod input_words_tests;
+#[cfg(test)]
 mod tests;

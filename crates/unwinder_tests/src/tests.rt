@@ -18,12 +18,12 @@ use circuit::{Circuit, Memory};
 use fq_core::{Fault, Place, Refusal};
 use fql_read::read_query;
 use predicates::resolve;
-use reached::Bounds;
 use std::alloc::Global;
 use std::fmt::Write;
 use std::test::Fail;
 use test_programs::texts_of;
 use unwinder::{Entry, Unwound, unwind};
+use unwinder_reach::reached::Bounds;
 
 fn predicates_of(alloc: Global, graph: &Graph, query: &str) -> Result<Predicates, Fault>
     ensures { IfOk result (λ p. IsPredicates graph.now p) }

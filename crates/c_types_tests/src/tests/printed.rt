@@ -1,14 +1,14 @@
 // Typed trees as texts: operators stand before their operands, each with the kind of its value, and each place with its
 // number, `g` for globals, `l` for cells of the frame and `a` for arrays that are lent.
+use c_typed_trees::{
+    Callee, TypedCall, TypedExpr, TypedExprForm, TypedForm, TypedFunction, TypedGroup, TypedPlace,
+    TypedStatement,
+};
 use c_values::{BinaryOp, Kind, UnaryOp};
 use cfa::{ArrayPlace, CellPlace, Expr, Variable, VariablePlace};
 use fq_core::Name;
 use std::fmt::Write;
 use std::test::Fail;
-use typed_trees::{
-    Callee, TypedCall, TypedExpr, TypedExprForm, TypedForm, TypedFunction, TypedGroup, TypedPlace,
-    TypedStatement,
-};
 
 fn mark_of(op: BinaryOp) -> &'static str {
     match op {

@@ -2,7 +2,7 @@
 // reads as the node of its start, and then for each step the edge and the node to which it leads, with a sign for each
 // predicate and a mark where the run ends in a way that counts.
 use c_meaning::Ends;
-use reached::Bounds;
+use unwinder_reach::reached::Bounds;
 
 // The patterns of an input's words and then of its answers, and the entries that hold for it.
 type Run = (&'static [u64], &'static str);

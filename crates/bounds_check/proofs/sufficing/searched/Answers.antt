@@ -3,7 +3,7 @@ use Rattle.c_values.specs.Kind.{IsKind}
 use Rattle.c_values.specs.declared.kinds.Kind.{Kind}
 use Rattle.c_meaning.specs.declared.input.Input.{Input}
 use Rattle.goal_formula.specs.Bits.{assignment, input_from}
-use Rattle.confirmation.specs.Outcomes.{IsOutcome}
+use Rattle.search_checked.specs.Outcomes.{IsOutcome}
 use Rattle.search.specs.Nexts.{IsModel}
 use Rattle.unwinder.proofs.Made.{parameter_kinds}
 use Rattle.bounds_check.specs.Sufficing.{IsSpent}

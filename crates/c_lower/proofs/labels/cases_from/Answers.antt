@@ -1,6 +1,6 @@
 use Rattle.std.proofs.Common.{◌+◌, ◌++◌, ◌∙◌, ap, map}
-use Rattle.graph_of.specs.Switch.{cases_in, cases_from}
-use Rattle.graph_of.specs.Table.{group_of}
+use Rattle.c_lower_rules.specs.graph_of.Switch.{cases_in, cases_from}
+use Rattle.c_lower_rules.specs.graph_of.Table.{group_of}
 use Rattle.c_lower.specs.Cases.{case_of}
 use Rattle.c_lower.proofs.LabelLaws.{group_cases_turn, group_cases_end}
 use Rattle.c_lower.proofs.labels.cases_from.Goals as goal

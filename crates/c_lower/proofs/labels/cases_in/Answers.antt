@@ -1,5 +1,5 @@
 use Rattle.std.proofs.Common.{◌++◌, map}
-use Rattle.graph_of.specs.Switch.{cases_in}
+use Rattle.c_lower_rules.specs.graph_of.Switch.{cases_in}
 use Rattle.c_lower.specs.Cases.{case_of}
 use Rattle.c_lower.proofs.LabelLaws.{cases_end}
 use Rattle.c_lower.proofs.labels.cases_in.Goals as goal

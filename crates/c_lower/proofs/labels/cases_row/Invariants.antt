@@ -1,6 +1,6 @@
 use Rattle.std.proofs.Common.{◌≡◌, map, drop}
-use Rattle.graph_of.specs.Builder.{after}
-use Rattle.graph_of.specs.Switch.{cases_row}
+use Rattle.c_lower_rules.specs.graph_of.Builder.{after}
+use Rattle.c_lower_rules.specs.graph_of.Switch.{cases_row}
 use Rattle.c_lower.specs.Cases.{case_of}
 use Rattle.c_lower.proofs.LabelLaws.{labels_left}
 use Rattle.c_lower.proofs.labels.cases_row.Given as goal

@@ -1,5 +1,5 @@
 use Rattle.std.proofs.Common.{◌∙◌, ap}
-use Rattle.graph_of.specs.Switch.{has_default}
+use Rattle.c_lower_rules.specs.graph_of.Switch.{has_default}
 use Rattle.c_lower.proofs.LabelLaws.{group_default, other_group}
 use Rattle.c_lower.proofs.labels.default_from.Goals as goal
 

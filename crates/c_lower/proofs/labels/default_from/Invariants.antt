@@ -1,6 +1,6 @@
 use Rattle.std.proofs.Common.{◌≡◌, ◌+◌, map, drop}
-use Rattle.graph_of.specs.Switch.{default_from}
-use Rattle.graph_of.specs.Table.{group_of}
+use Rattle.c_lower_rules.specs.graph_of.Switch.{default_from}
+use Rattle.c_lower_rules.specs.graph_of.Table.{group_of}
 use Rattle.c_lower.proofs.labels.default_from.Given as goal
 
 abbrev pub invariant-loop-i : goal.invariant-loop-i

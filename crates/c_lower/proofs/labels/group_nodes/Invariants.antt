@@ -1,7 +1,7 @@
 use Rattle.std.proofs.Common.{◌≡◌, map, take}
-use Rattle.graph_of.specs.Builder.{after}
-use Rattle.graph_of.specs.Switch.{group_nodes}
-use Rattle.graph_of.specs.Table.{group_of}
+use Rattle.c_lower_rules.specs.graph_of.Builder.{after}
+use Rattle.c_lower_rules.specs.graph_of.Switch.{group_nodes}
+use Rattle.c_lower_rules.specs.graph_of.Table.{group_of}
 use Rattle.c_lower.proofs.labels.group_nodes.Given as goal
 
 abbrev pub invariant-loop-group : goal.invariant-loop-group

@@ -1,5 +1,5 @@
 use Rattle.std.proofs.Common.{◌≡◌, drop}
-use Rattle.graph_of.specs.Switch.{has_default}
+use Rattle.c_lower_rules.specs.graph_of.Switch.{has_default}
 use Rattle.c_lower.proofs.labels.has_default.Given as goal
 
 abbrev pub invariant-loop-label : goal.invariant-loop-label

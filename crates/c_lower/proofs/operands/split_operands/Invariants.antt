@@ -1,6 +1,6 @@
 use Rattle.std.proofs.Common.{◌≡◌, map}
 use Rattle.std.specs.List.{flat_map}
-use Rattle.graph_of.specs.declared.parts.Operand.{Operand}
+use Rattle.c_lower_rules.specs.declared.graph_of.parts.Operand.{Operand}
 use Rattle.c_lower.proofs.operands.split_operands.Given as goal
 
 abbrev pub invariant-loop-operand : goal.invariant-loop-operand

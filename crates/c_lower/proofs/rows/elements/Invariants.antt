@@ -1,7 +1,7 @@
 use Rattle.std.proofs.Common.{◌≡◌, map, drop}
-use Rattle.graph_of.specs.Builder.{after}
-use Rattle.graph_of.specs.Expressions.{value_of}
-use Rattle.graph_of.specs.Statements.{elements_row}
+use Rattle.c_lower_rules.specs.graph_of.Builder.{after}
+use Rattle.c_lower_rules.specs.graph_of.Expressions.{value_of}
+use Rattle.c_lower_rules.specs.graph_of.Statements.{elements_row}
 use Rattle.c_lower.proofs.rows.elements.Given as goal
 
 abbrev pub invariant-loop-i : goal.invariant-loop-i

@@ -1,6 +1,6 @@
 use Rattle.std.proofs.Common.{◌≡◌, ◌++◌, map, take}
-use Rattle.graph_of.specs.Statements.{declared_by}
-use Rattle.graph_of.specs.Table.{piece}
+use Rattle.c_lower_rules.specs.graph_of.Statements.{declared_by}
+use Rattle.c_lower_rules.specs.graph_of.Table.{piece}
 use Rattle.c_lower.specs.Forms.{has_any}
 use Rattle.c_lower.proofs.scopes.declare_all.Given as goal
 

@@ -1,10 +1,10 @@
 use Rattle.std.proofs.Common.{◌≡◌, ◌+◌, ◌∙◌, map, sym, ap, subst}
 use Rattle.std.specs.Prelude.{OnOk, IfErr}
 use Rattle.std.proofs.lemmas.Result.{err_from_is_err_and}
-use Rattle.graph_of.specs.Builder.{after}
-use Rattle.graph_of.specs.Statements.{block_row}
-use Rattle.graph_of.specs.Switch.{cases_row}
-use Rattle.graph_of.specs.Table.{piece}
+use Rattle.c_lower_rules.specs.graph_of.Builder.{after}
+use Rattle.c_lower_rules.specs.graph_of.Statements.{block_row}
+use Rattle.c_lower_rules.specs.graph_of.Switch.{cases_row}
+use Rattle.c_lower_rules.specs.graph_of.Table.{piece}
 use Rattle.c_lower.specs.Cases.{case_of}
 use Rattle.c_lower.specs.Stopping.{IsStop}
 use Rattle.c_lower.specs.declared.stop.Stop.TheVariants.{Memory}

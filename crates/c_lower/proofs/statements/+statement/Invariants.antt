@@ -2,13 +2,13 @@ use Rattle.std.proofs.Common.{◌≡◌, ℕ, ◌+◌, ◌*◌, map, drop, Optio
 use Rattle.std.specs.Prelude.{max}
 use denote.Param.Weighed.{most}
 use Rattle.std.specs.Option.{option_map}
-use Rattle.typed_trees.specs.declared.expression.TypedExpr.{TypedExpr}
-use Rattle.typed_trees.specs.declared.statement.TypedStatement.{TypedStatement, size-TypedStatement}
-use Rattle.typed_trees.specs.declared.statement.TypedGroup.{size-TypedGroup}
-use Rattle.graph_of.specs.Builder.{in_order, after}
-use Rattle.graph_of.specs.Statements.{sequence, block_row, arms_row}
-use Rattle.graph_of.specs.Switch.{groups_row}
-use Rattle.graph_of.specs.Table.{piece, group_of}
+use Rattle.c_typed_trees.specs.declared.expression.TypedExpr.{TypedExpr}
+use Rattle.c_typed_trees.specs.declared.statement.TypedStatement.{TypedStatement, size-TypedStatement}
+use Rattle.c_typed_trees.specs.declared.statement.TypedGroup.{size-TypedGroup}
+use Rattle.c_lower_rules.specs.graph_of.Builder.{in_order, after}
+use Rattle.c_lower_rules.specs.graph_of.Statements.{sequence, block_row, arms_row}
+use Rattle.c_lower_rules.specs.graph_of.Switch.{groups_row}
+use Rattle.c_lower_rules.specs.graph_of.Table.{piece, group_of}
 use Rattle.c_lower.specs.Forms.{arm_of}
 use Rattle.c_lower.proofs.statements.+statement.Given as goal
 

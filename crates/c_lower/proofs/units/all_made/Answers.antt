@@ -1,7 +1,7 @@
 use Rattle.std.proofs.Common.{map, arith}
 use Rattle.std.proofs.lemmas.Result.{err_from_is_err_and}
-use Rattle.typed_trees.specs.declared.unit.Global.{Global}
-use Rattle.graph_of.specs.GraphOf.{made}
+use Rattle.c_typed_trees.specs.declared.unit.Global.{Global}
+use Rattle.c_lower_rules.specs.graph_of.GraphOf.{made}
 use Rattle.c_lower.proofs.UnitLaws.{unit_made, unit_stops, unit_over}
 use Rattle.c_lower.proofs.units.all_made.Goals as goal
 

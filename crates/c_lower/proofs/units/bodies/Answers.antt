@@ -1,8 +1,8 @@
 use Rattle.std.proofs.Common.{◌+◌, ◌*◌, ◌∙◌, map, subst}
 use Rattle.std.proofs.lemmas.Result.{err_from_is_err_and}
-use Rattle.graph_of.specs.Builder.{after}
-use Rattle.graph_of.specs.Statements.{block_row}
-use Rattle.graph_of.specs.Table.{piece}
+use Rattle.c_lower_rules.specs.graph_of.Builder.{after}
+use Rattle.c_lower_rules.specs.graph_of.Statements.{block_row}
+use Rattle.c_lower_rules.specs.graph_of.Table.{piece}
 use Rattle.c_lower.specs.Stopping.{IsStop}
 use Rattle.c_lower.proofs.UnitLaws.{bodies_go_on, bodies_stop, bodies_end}
 use Rattle.c_lower.proofs.units.bodies.Goals as goal

@@ -1,6 +1,6 @@
 use Rattle.std.proofs.Common.{◌≡◌, drop}
-use Rattle.graph_of.specs.Builder.{in_order, after}
-use Rattle.graph_of.specs.GraphOf.{bodies_from}
+use Rattle.c_lower_rules.specs.graph_of.Builder.{in_order, after}
+use Rattle.c_lower_rules.specs.graph_of.GraphOf.{bodies_from}
 use Rattle.c_lower.proofs.units.bodies.Given as goal
 
 abbrev pub invariant-loop-i : goal.invariant-loop-i

@@ -1,5 +1,5 @@
 use Rattle.std.proofs.Common.{◌≡◌, [], map, take}
-use Rattle.graph_of.specs.GraphOf.{ends_from, outermost}
+use Rattle.c_lower_rules.specs.graph_of.GraphOf.{ends_from, outermost}
 use Rattle.c_lower.proofs.units.ends.Given as goal
 
 abbrev pub invariant-loop-i : goal.invariant-loop-i

@@ -1,5 +1,5 @@
 use Rattle.std.proofs.Common.{◌≡◌, take}
-use Rattle.graph_of.specs.GraphOf.{functions_from}
+use Rattle.c_lower_rules.specs.graph_of.GraphOf.{functions_from}
 use Rattle.c_lower.proofs.units.functions_of.Given as goal
 
 abbrev pub invariant-loop-i : goal.invariant-loop-i

@@ -1,5 +1,5 @@
 use Rattle.std.proofs.Common.{◌++◌, ◌∙◌, map, ap}
-use Rattle.typed_trees.specs.declared.unit.Global.{Global}
+use Rattle.c_typed_trees.specs.declared.unit.Global.{Global}
 use Rattle.c_lower.proofs.UnitLaws.{cells_more}
 use Rattle.c_lower.proofs.units.global_cells.Goals as goal
 

@@ -1,6 +1,6 @@
 use Rattle.std.proofs.Common.{◌≡◌, map, take}
 use Rattle.std.specs.List.{flat_map}
-use Rattle.typed_trees.specs.declared.unit.Global.{Global}
+use Rattle.c_typed_trees.specs.declared.unit.Global.{Global}
 use Rattle.c_lower.proofs.units.global_cells.Given as goal
 
 abbrev pub invariant-loop-global : goal.invariant-loop-global

@@ -1,5 +1,5 @@
 use Rattle.std.proofs.Common.{◌≡◌, ◌≤◌, map, length, drop}
-use Rattle.typed_trees.specs.declared.unit.Global.{Global}
+use Rattle.c_typed_trees.specs.declared.unit.Global.{Global}
 use Rattle.c_lower.proofs.units.global_variables.Given as goal
 
 abbrev pub invariant-loop-i : goal.invariant-loop-i

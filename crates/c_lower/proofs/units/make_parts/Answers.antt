@@ -1,8 +1,8 @@
 use Rattle.std.proofs.Common.{◌≡◌, ◌∙◌, map, sym, ap, subst}
 use Rattle.std.specs.List.{flat_map}
 use Rattle.std.proofs.lemmas.Result.{err_from_is_err_and}
-use Rattle.typed_trees.specs.declared.unit.Global.{Global}
-use Rattle.graph_of.specs.GraphOf.{functions_from, global_variables, global_cells, made}
+use Rattle.c_typed_trees.specs.declared.unit.Global.{Global}
+use Rattle.c_lower_rules.specs.graph_of.GraphOf.{functions_from, global_variables, global_cells, made}
 use Rattle.c_lower.specs.Stopping.{IsStop}
 use Rattle.c_lower.proofs.UnitLaws.{graph_is, graph_stops}
 use Rattle.c_lower.proofs.units.make_parts.Goals as goal

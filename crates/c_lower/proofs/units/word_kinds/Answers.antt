@@ -1,5 +1,5 @@
 use Rattle.std.proofs.Common.{◌∙◌}
-use Rattle.graph_of.specs.GraphOf.{word_kind}
+use Rattle.c_lower_rules.specs.graph_of.GraphOf.{word_kind}
 use Rattle.c_lower.proofs.UnitLaws.{none_more, one_more, word_at, no_word}
 use Rattle.c_lower.proofs.units.word_kinds.Goals as goal
 use Rattle.c_lower.proofs.units.word_kinds.Goals.{in-None+in_ok-push-in-None, in-Some}

@@ -1,6 +1,6 @@
 use Rattle.std.proofs.Common.{◌≡◌, take}
 use Rattle.std.specs.Prelude.{filter_map}
-use Rattle.graph_of.specs.GraphOf.{word_kind}
+use Rattle.c_lower_rules.specs.graph_of.GraphOf.{word_kind}
 use Rattle.c_lower.proofs.units.word_kinds.Given as goal
 
 abbrev pub invariant-loop-parameter : goal.invariant-loop-parameter

@@ -1,7 +1,7 @@
 use Rattle.std.proofs.Common.{◌≡◌, map}
 use Rattle.std.proofs.lemmas.Result.{err_from_is_err_and}
-use Rattle.typed_trees.specs.declared.expression.TypedExprForm.TheVariants as forms
-use Rattle.graph_of.specs.Expressions.{value_of}
+use Rattle.c_typed_trees.specs.declared.expression.TypedExprForm.TheVariants as forms
+use Rattle.c_lower_rules.specs.graph_of.Expressions.{value_of}
 use Rattle.c_lower.proofs.ExpressionLaws.{left_turn, left_stop, left_made, left_end, left_gives, binary_result, binary_stop}
 use Rattle.c_lower.proofs.values.+value.Goals as goal
 

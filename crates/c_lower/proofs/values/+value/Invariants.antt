@@ -1,10 +1,10 @@
 use Rattle.std.proofs.Common.{◌+◌, ◌*◌, map, drop}
 use Rattle.std.specs.Prelude.{max}
 use denote.Param.Weighed.{most}
-use Rattle.typed_trees.specs.declared.expression.TypedCall.{size-TypedCall}
-use Rattle.typed_trees.specs.declared.expression.TypedExpr.{size-TypedExpr}
-use Rattle.typed_trees.specs.declared.expression.TypedPlace.{size-TypedPlace}
-use Rattle.graph_of.specs.Expressions.{value_of}
+use Rattle.c_typed_trees.specs.declared.expression.TypedCall.{size-TypedCall}
+use Rattle.c_typed_trees.specs.declared.expression.TypedExpr.{size-TypedExpr}
+use Rattle.c_typed_trees.specs.declared.expression.TypedPlace.{size-TypedPlace}
+use Rattle.c_lower_rules.specs.graph_of.Expressions.{value_of}
 use Rattle.c_lower.proofs.ExpressionLaws.{Left}
 use Rattle.c_lower.proofs.values.+value.Given as goal
 

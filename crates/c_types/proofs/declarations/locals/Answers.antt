@@ -1,5 +1,5 @@
-use Rattle.expression_types.specs.Rule.{alone_in}
-use Rattle.expression_types.proofs.RuleLaws.{left_one, left_made, left_after}
+use Rattle.c_type_rules.specs.Rule.{alone_in}
+use Rattle.c_type_rules.proofs.RuleLaws.{left_one, left_made, left_after}
 use Rattle.c_types.specs.Declarations.{local_rule, locals_rule}
 use Rattle.c_types.proofs.declarations.locals.Goals as goal
 

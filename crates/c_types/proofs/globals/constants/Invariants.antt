@@ -1,5 +1,5 @@
 use Rattle.std.proofs.Common.{◌≡◌, drop}
-use Rattle.expression_types.specs.Rule.{after}
+use Rattle.c_type_rules.specs.Rule.{after}
 use Rattle.c_types.specs.Declarations.{constants_from}
 use Rattle.c_types.proofs.globals.constants.Given as goal
 

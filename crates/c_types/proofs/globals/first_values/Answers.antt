@@ -1,6 +1,6 @@
 use Rattle.std.proofs.Common.{[]}
-use Rattle.expression_types.specs.Rule.{alone_in}
-use Rattle.expression_types.proofs.RuleLaws.{left_one, left_made, left_after}
+use Rattle.c_type_rules.specs.Rule.{alone_in}
+use Rattle.c_type_rules.proofs.RuleLaws.{left_one, left_made, left_after}
 use Rattle.c_types.specs.Declarations.{first_value, first_values}
 use Rattle.c_types.proofs.globals.first_values.Goals as goal
 

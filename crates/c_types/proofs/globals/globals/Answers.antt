@@ -1,5 +1,5 @@
-use Rattle.expression_types.specs.Rule.{alone_in}
-use Rattle.expression_types.proofs.RuleLaws.{left_one, left_made, left_after}
+use Rattle.c_type_rules.specs.Rule.{alone_in}
+use Rattle.c_type_rules.proofs.RuleLaws.{left_one, left_made, left_after}
 use Rattle.c_types.specs.Declarations.{global_rule, globals_rule}
 use Rattle.c_types.proofs.globals.globals.Goals as goal
 

@@ -1,6 +1,6 @@
 use Rattle.std.proofs.Common.{drop}
-use Rattle.expression_types.specs.Rule.{alone_in}
-use Rattle.expression_types.proofs.RuleLaws.{Left}
+use Rattle.c_type_rules.specs.Rule.{alone_in}
+use Rattle.c_type_rules.proofs.RuleLaws.{Left}
 use Rattle.c_types.specs.Declarations.{global_rule}
 use Rattle.c_types.proofs.globals.globals.Given as goal
 

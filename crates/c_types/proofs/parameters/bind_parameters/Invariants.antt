@@ -1,5 +1,5 @@
 use Rattle.std.proofs.Common.{◌≡◌, drop}
-use Rattle.expression_types.specs.Rule.{after}
+use Rattle.c_type_rules.specs.Rule.{after}
 use Rattle.c_types.specs.Functions.{bind_parameters}
 use Rattle.c_types.proofs.parameters.bind_parameters.Given as goal
 

@@ -1,6 +1,6 @@
 use Rattle.std.proofs.Common.{[]}
-use Rattle.expression_types.specs.Rule.{alone_in}
-use Rattle.expression_types.proofs.RuleLaws.{left_one, left_turn, left_made, left_after}
+use Rattle.c_type_rules.specs.Rule.{alone_in}
+use Rattle.c_type_rules.proofs.RuleLaws.{left_one, left_turn, left_made, left_after}
 use Rattle.c_types.specs.Statements.{statement_rule, arm_rule, arm_of, arms_typing, group_rule, group, groups_typing}
 use Rattle.c_types.proofs.statements.+statements.Goals as goal
 

@@ -2,8 +2,8 @@ use Rattle.std.proofs.Common.{ℕ, ◌+◌, ◌*◌, [], drop, Option, Some, Non
 use denote.Param.Weighed.{most}
 use Rattle.c_parse.specs.declared.statement.Statement.{Statement, size-Statement}
 use Rattle.c_parse.specs.declared.statement.Group.{size-Group}
-use Rattle.expression_types.specs.Rule.{alone_in}
-use Rattle.expression_types.proofs.RuleLaws.{Left}
+use Rattle.c_type_rules.specs.Rule.{alone_in}
+use Rattle.c_type_rules.proofs.RuleLaws.{Left}
 use Rattle.c_types.specs.Statements.{statement_rule, arm_rule, arm_of, group_rule, group}
 use Rattle.c_types.proofs.statements.+statements.Given as goal
 

@@ -1,7 +1,7 @@
 use Rattle.std.proofs.Common.{[]}
 use Rattle.c_parse.specs.declared.statement.CaseLabel.{CaseLabel}
-use Rattle.expression_types.specs.Rule.{alone_in}
-use Rattle.expression_types.proofs.RuleLaws.{left_one, left_made, left_after}
+use Rattle.c_type_rules.specs.Rule.{alone_in}
+use Rattle.c_type_rules.proofs.RuleLaws.{left_one, left_made, left_after}
 use Rattle.c_types.specs.Statements.{case_rule, cases_rule}
 use Rattle.c_types.proofs.switches.cases.Goals as goal
 

@@ -1,7 +1,7 @@
 use Rattle.std.proofs.Common.{[], drop}
 use Rattle.c_parse.specs.declared.statement.CaseLabel.{CaseLabel}
-use Rattle.expression_types.specs.Rule.{alone_in}
-use Rattle.expression_types.proofs.RuleLaws.{Left}
+use Rattle.c_type_rules.specs.Rule.{alone_in}
+use Rattle.c_type_rules.proofs.RuleLaws.{Left}
 use Rattle.c_types.specs.Statements.{case_rule}
 use Rattle.c_types.proofs.switches.cases.Given as goal
 

@@ -7,7 +7,7 @@ use Rattle.command.proofs.StageLaws.{due_no_goal, goal_found, goal_none, goal_so
 use Rattle.command.specs.Check.{IsDueOfCheck}
 use Rattle.command.specs.Entries.{seen}
 use Rattle.command.specs.Stages.{OfGoal, OfSources}
-use Rattle.reached.specs.declared.bounds.Bounds.{Bounds}
+use Rattle.unwinder_reach.specs.declared.reached.bounds.Bounds.{Bounds}
 use Rattle.command.specs.Reads.{reads}
 use Rattle.command.specs.Refusal.{said_by}
 use Rattle.command_words.specs.Request.{checking}

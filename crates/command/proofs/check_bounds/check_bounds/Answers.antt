@@ -2,7 +2,7 @@ use Rattle.std.proofs.Common.{inl, inr, refl, subst}
 use Rattle.std.proofs.lemmas.Result.{err_from_is_err_and}
 use Rattle.bounds_check.specs.Leaving.{IsForLeaving}
 use Rattle.bounds_check.specs.Sufficing.{IsWithinLimits}
-use Rattle.reached.specs.declared.bounds.Bounds.{Bounds}
+use Rattle.unwinder_reach.specs.declared.reached.bounds.Bounds.{Bounds}
 use Rattle.unwinder.specs.Unwinding.{IsUnwindFault}
 use Rattle.command_words.specs.Request.{checking_bounds}
 use Rattle.report.specs.Suffice.{suffice_text}

@@ -5,7 +5,7 @@ use Rattle.command.proofs.GivesLaws.{gives_map, gives_refused}
 use Rattle.command.specs.Entries.{seen}
 use Rattle.command.specs.Generate.{IsDueOfGenerate}
 use Rattle.command.specs.Stages.{OfSources}
-use Rattle.reached.specs.declared.bounds.Bounds.{Bounds}
+use Rattle.unwinder_reach.specs.declared.reached.bounds.Bounds.{Bounds}
 use Rattle.command_words.specs.Request.{generating}
 use Rattle.std.proofs.Common.{subst, refl}
 use Rattle.std.proofs.lemmas.Result.{err_from_is_err_and}

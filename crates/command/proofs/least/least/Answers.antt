@@ -7,7 +7,7 @@ use Rattle.command.specs.Entries.{seen}
 use Rattle.command.specs.Least.{IsDueOfLeast}
 use Rattle.command.specs.Ranges.{within}
 use Rattle.command.specs.Stages.{OfGoal, OfSources}
-use Rattle.reached.specs.declared.bounds.Bounds.{Bounds}
+use Rattle.unwinder_reach.specs.declared.reached.bounds.Bounds.{Bounds}
 use Rattle.command_words.specs.Request.{proving}
 use Rattle.std.proofs.Common.{subst, refl, arith}
 use Rattle.std.proofs.lemmas.Result.{err_from_is_err_and}

@@ -1,6 +1,6 @@
 use Rattle.std.proofs.Common.{inl, inr, refl, subst}
 use Rattle.std.proofs.lemmas.Result.{err_from_is_err_and}
-use Rattle.given.specs.declared.goal.Goal.{Goal}
+use Rattle.suite_problem.specs.declared.goal.Goal.{Goal}
 use Rattle.least_input.specs.AtGoal.{IsAnsweredAt, IsOpenAt}
 use Rattle.command.specs.Entries.{seen}
 use Rattle.command.specs.Least.{IsLowered}

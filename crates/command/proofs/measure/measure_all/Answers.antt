@@ -1,7 +1,7 @@
 use Rattle.std.proofs.Common.{sym, subst, ◌∙◌, ap}
 use Rattle.path_runner.specs.declared.path.PathRecord.{PathRecord}
 use Rattle.patterns.specs.Paths.{IsPath}
-use Rattle.hits.specs.Hits.{path_in}
+use Rattle.measurer_hits.specs.hits.Hits.{path_in}
 use Rattle.command.specs.Runs.{run_of}
 use Rattle.command.proofs.MeasureLaws.{ends_more, hits_more, run_is_path}
 use Rattle.command.proofs.measure.measure_all.Goals as goal

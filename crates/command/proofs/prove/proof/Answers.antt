@@ -1,6 +1,6 @@
 use Rattle.std.proofs.Common.{◌≡◌, ◌∙◌, inl, inr, refl, ap, sym, subst}
 use Rattle.std.proofs.lemmas.Result.{err_from_is_err_and}
-use Rattle.given.specs.declared.goal.Goal.{Goal}
+use Rattle.suite_problem.specs.declared.goal.Goal.{Goal}
 use Rattle.suite.specs.Seeking.{IsDecidedAt, IsDecidedAs, IsOpenAt, Seeking}
 use Rattle.command.specs.Entries.{seen}
 use Rattle.command.specs.Prove.{IsProved}

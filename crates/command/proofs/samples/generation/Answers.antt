@@ -1,7 +1,7 @@
 use Rattle.std.proofs.Common.{[], ◌∷◌}
 use Rattle.std.proofs.lemmas.Result.{err_from_is_err_and}
 use Rattle.report.specs.Generated.{sample_text}
-use Rattle.given.specs.declared.generated.Generated.{Generated}
+use Rattle.suite_problem.specs.declared.generated.Generated.{Generated}
 use Rattle.command.specs.Asked.{sample_file}
 use Rattle.command.specs.Entries.{seen}
 use Rattle.command.specs.Sample.{default_budget}

@@ -2,7 +2,7 @@ use Rattle.std.proofs.Common.{sym, ◌∙◌, get_or, rules, SFits, w32}
 use Rattle.std.specs.Prelude.{pos}
 use Rattle.std.proofs.lemmas.Int.{to_z-of_z}
 use Rattle.cnf.specs.Checks.{clauses_before}
-use Rattle.literal_marks.specs.Marks.{marked}
+use Rattle.cnf.specs.literal_marks.Marks.{marked}
 use Rattle.derivation_check.proofs.StepLaws.{step_refused}
 use Rattle.derivation_check.proofs.chain.mark_steps.Goals as goal
 

@@ -1,6 +1,6 @@
 use Rattle.std.proofs.Common.{◌≡◌, drop}
 use Rattle.cnf.specs.Checks.{clauses_before, resolved}
-use Rattle.literal_marks.specs.Marks.{marked}
+use Rattle.cnf.specs.literal_marks.Marks.{marked}
 use Rattle.derivation_check.proofs.chain.mark_steps.Given as goal
 
 abbrev pub invariant-loop-step : goal.invariant-loop-step

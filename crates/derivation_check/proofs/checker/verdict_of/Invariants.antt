@@ -1,6 +1,6 @@
 use Rattle.std.proofs.Common.{ℕ, ◌<◌}
 use Rattle.cnf.specs.Checks.{IsRightAt}
-use Rattle.literal_marks.specs.Marks.{IsClear}
+use Rattle.cnf.specs.literal_marks.Marks.{IsClear}
 use Rattle.derivation_check.proofs.checker.verdict_of.Given as goal
 
 abbrev pub invariant-loop-at : goal.invariant-loop-at

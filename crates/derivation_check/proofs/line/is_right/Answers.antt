@@ -1,7 +1,7 @@
 use Rattle.std.proofs.Common.{◌≡◌, sym, false}
 use Rattle.std.specs.List.{list_all}
 use Rattle.cnf.specs.Checks.{clauses_before}
-use Rattle.literal_marks.specs.Marks.{marked}
+use Rattle.cnf.specs.literal_marks.Marks.{marked}
 use Rattle.derivation_check.proofs.LineLaws.{not_all_listed, right_by_clear, clear_by_clear}
 use Rattle.derivation_check.proofs.line.is_right.Goals as goal
 

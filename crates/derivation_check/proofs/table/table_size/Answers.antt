@@ -1,7 +1,7 @@
 use Rattle.std.proofs.Common.{◌≤◌, arith}
 use Rattle.cnf.specs.declared.derivation.DerivationLine.{DerivationLine}
-use Rattle.literal_marks.specs.Marks.{has_places}
-use Rattle.literal_marks.specs.declared.places.Places.TheVariants.{ByKey}
+use Rattle.cnf.specs.literal_marks.Marks.{has_places}
+use Rattle.cnf.specs.declared.literal_marks.places.Places.TheVariants.{ByKey}
 use Rattle.derivation_check.proofs.NumbersLaws.{more_places, all_weaker}
 use Rattle.derivation_check.proofs.table.table_size.Goals as goal
 

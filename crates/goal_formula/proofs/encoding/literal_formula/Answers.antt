@@ -1,5 +1,5 @@
 use Rattle.std.proofs.Common.{◌≡◌, refl, ◌+◌, ◌-◌, ◌*◌, length, take, drop, sym, ap, subst, ◌∙◌}
-use Rattle.input_words.specs.Worlds.{total_width}
+use Rattle.unwinder.specs.input_words.Worlds.{total_width}
 use Rattle.goal_formula.specs.Parts.{AreInputVariables}
 use Rattle.goal_formula.proofs.InputBits.{count_is}
 use Rattle.goal_formula.proofs.Rooted.{all_rows, rooted}

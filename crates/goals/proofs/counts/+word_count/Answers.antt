@@ -1,5 +1,5 @@
 use Rattle.std.proofs.Common.{◌≡◌, ℕ, ◌*◌, min, ap, sym, ◌∙◌}
-use Rattle.applied_clauses.specs.Trees.{tree_of}
+use Rattle.goals.specs.applied_clauses.Trees.{tree_of}
 use Rattle.goals.specs.Counts.{word_count}
 use Rattle.goals.proofs.Capped.{capped_product}
 use Rattle.goals.proofs.Dotted.{dotted_count}

@@ -1,5 +1,5 @@
 use Rattle.std.proofs.Common.{◌≡◌, ◌-◌, ◌^◌, min, take}
-use Rattle.graph_paths.specs.Outcome.{edge_count}
+use Rattle.filters_paths.specs.Outcome.{edge_count}
 use Rattle.goals.proofs.counts.edge_count.Given as goal
 
 abbrev pub invariant-loop-path : goal.invariant-loop-path

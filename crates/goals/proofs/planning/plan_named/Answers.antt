@@ -1,7 +1,7 @@
 use Rattle.std.proofs.Common.{◌≡◌, Option, ap, length, ◌∙◌, subst}
 use Rattle.std.specs.Prelude.{option_map}
-use Rattle.applied_clauses.specs.Applied.{applied}
-use Rattle.applied_clauses.specs.Trees.{Tree, tree_of}
+use Rattle.goals.specs.applied_clauses.Applied.{applied}
+use Rattle.goals.specs.applied_clauses.Trees.{Tree, tree_of}
 use Rattle.fql_read.specs.declared.query.Clause.{Clause}
 use Rattle.goals.specs.Plans.{IsTreeOutcome, cover_tree, passing_tree}
 use Rattle.goals.proofs.OverLaws.{mapped, outcome_over}

@@ -1,6 +1,6 @@
 use Rattle.std.proofs.Common.{◌≡◌, ap, sym, ◌∙◌}
 use Rattle.std.specs.Prelude.{option_map}
-use Rattle.applied_clauses.specs.Trees.{tree_of}
+use Rattle.goals.specs.applied_clauses.Trees.{tree_of}
 use Rattle.indexmap.specs.IndexSet.{insert_all}
 use Rattle.goals.specs.CountedCauses.{counted_causes}
 use Rattle.goals.specs.Plans.{first_cause}

@@ -2,7 +2,7 @@ use Rattle.std.proofs.Common.{◌≡◌, ◌∷◌, [], false, ap, sym, ◌∙�
 use Rattle.std.proofs.lemmas.List.{map-append}
 use Rattle.std.specs.List.{list_any}
 use Rattle.std.specs.Str.{bytes_eq}
-use Rattle.applied_clauses.specs.Trees.{tree_of}
+use Rattle.goals.specs.applied_clauses.Trees.{tree_of}
 use Rattle.goals.specs.Quotes.{quote_of, quotes_in}
 use Rattle.goals.specs.Words.{Quote}
 use Rattle.goals.specs.declared.quotes.QuotedLetter.{QuotedLetter}

@@ -1,5 +1,5 @@
 use Rattle.std.proofs.Common.{◌≡◌, ◌∙◌, sym, arith}
-use Rattle.applied_clauses.specs.Trees.{tree_of}
+use Rattle.goals.specs.applied_clauses.Trees.{tree_of}
 use Rattle.goals.specs.Quotes.{quotes_in}
 use Rattle.goals.specs.Words.{texts}
 use Rattle.goals.specs.Counts.{word_count}

@@ -1,6 +1,6 @@
 use Rattle.std.proofs.Common.{◌≡◌, ◌<◌, ◌^◌, true, false, List, [], ◌∷◌, ◌++◌, Bool, refl, sym, ap, subst, ◌∙◌, arith}
 use Rattle.goal_formula.specs.Bits.{assignment}
-use Rattle.confirmation.specs.Outcomes.{IsOutcome}
+use Rattle.search_checked.specs.Outcomes.{IsOutcome}
 use Rattle.search.specs.Nexts.{IsModel}
 use Rattle.least_input.specs.Fixing.{literal_of}
 use Rattle.least_input.specs.Parts.{Adds}

@@ -1,6 +1,6 @@
 use Rattle.std.proofs.Common.{◌≡◌, sym, subst}
 use Rattle.std.proofs.lemmas.Result.{IfOk-weaker}
-use Rattle.given.specs.declared.goal.Goal.{Goal}
+use Rattle.suite_problem.specs.declared.goal.Goal.{Goal}
 use Rattle.suite.specs.Seeking.{IsFormulaFor}
 use Rattle.least_input.specs.AtGoal.{IsAnsweredAt, IsOpenAt}
 use Rattle.least_input.specs.declared.least.Least.{Least}

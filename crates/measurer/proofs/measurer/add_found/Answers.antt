@@ -1,8 +1,8 @@
 use Rattle.std.proofs.Common.{length, sym, subst}
-use Rattle.word_index.specs.Numbers.{Adds}
-use Rattle.word_index.specs.Tables.{IsIndexOf}
-use Rattle.word_index.specs.Walks.{HasGoalWalk}
-use Rattle.word_index.proofs.Steps.{adds_both, on_ok}
+use Rattle.measurer_index.specs.word_index.Numbers.{Adds}
+use Rattle.measurer_index.specs.word_index.Tables.{IsIndexOf}
+use Rattle.measurer_index.specs.word_index.Walks.{HasGoalWalk}
+use Rattle.measurer_index.proofs.word_index.Steps.{adds_both, on_ok}
 use Rattle.measurer.specs.Measured.{AreMatchers}
 use Rattle.measurer.proofs.measurer.add_found.Goals as goal
 

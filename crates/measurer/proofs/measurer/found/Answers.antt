@@ -1,5 +1,5 @@
 use Rattle.std.proofs.Common.{refl, sym, subst, ◌∙◌}
-use Rattle.hits.specs.Hits.{AreHits, path_in}
+use Rattle.measurer_hits.specs.hits.Hits.{AreHits, path_in}
 use Rattle.measurer.specs.Known.{HasHits}
 use Rattle.measurer.proofs.KnownHits.{all_along}
 use Rattle.measurer.proofs.measurer.found.Goals as goal

@@ -1,6 +1,6 @@
 use Rattle.std.proofs.Common.{subst}
-use Rattle.word_index.proofs.Steps.{on_ok}
-use Rattle.hits.specs.Hits.{MeetsPassing}
+use Rattle.measurer_index.proofs.word_index.Steps.{on_ok}
+use Rattle.measurer_hits.specs.hits.Hits.{MeetsPassing}
 use Rattle.measurer.proofs.Gathered.{all_hits}
 use Rattle.measurer.proofs.measurer.gather.Goals as goal
 

@@ -1,5 +1,5 @@
 use Rattle.std.proofs.Common.{◌≡◌, ◌+◌, length, sym, subst, arith}
-use Rattle.word_index.specs.Numbers.{Adds}
+use Rattle.measurer_index.specs.word_index.Numbers.{Adds}
 use Rattle.measurer.proofs.Matchers.{MatchedBefore, get_some, accepted_more, refused_more, all_matched}
 use Rattle.measurer.proofs.others.add_matched.Goals as goal
 use Rattle.measurer.proofs.others.add_matched.Goals.{then-branch+in_ok-add, else-branch}

@@ -1,6 +1,6 @@
 use Rattle.std.proofs.Common.{List, length}
 use Rattle.goals.specs.GoalForm.{GoalForm}
-use Rattle.word_index.specs.Numbers.{Adds}
+use Rattle.measurer_index.specs.word_index.Numbers.{Adds}
 use Rattle.measurer.specs.Measured.{AreMatchers}
 use Rattle.measurer.proofs.Matchers.{MatchedBefore}
 use Rattle.measurer.proofs.others.add_matched.Given as goal

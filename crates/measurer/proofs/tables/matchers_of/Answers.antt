@@ -1,5 +1,5 @@
 use Rattle.std.proofs.Common.{◌+◌, sym, ◌∙◌, ap, subst}
-use Rattle.word_index.specs.Walks.{is_plain}
+use Rattle.measurer_index.specs.word_index.Walks.{is_plain}
 use Rattle.measurer.specs.Measured.{AreMatchers}
 use Rattle.measurer.proofs.Matchers.{get_some, goal_added, goal_skipped}
 use Rattle.measurer.proofs.tables.matchers_of.Goals as goal

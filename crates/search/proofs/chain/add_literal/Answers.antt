@@ -3,7 +3,7 @@ use Rattle.std.specs.Prelude.{neg_ℤ, slice_index_or}
 use Rattle.std.proofs.lemmas.Int.{to_z-of_z}
 use Rattle.std.proofs.lemmas.Option.{get_or_from_slice_get}
 use Rattle.cnf.specs.Clauses.{literal_key}
-use Rattle.literal_marks.proofs.PlacesLaws.{literal_fits}
+use Rattle.cnf.proofs.literal_marks.PlacesLaws.{literal_fits}
 use Rattle.search.proofs.ChainLaws.{added_found, added_high, added_low, located_at}
 use Rattle.search.proofs.chain.add_literal.Goals as goal
 

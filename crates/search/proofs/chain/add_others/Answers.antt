@@ -1,7 +1,7 @@
 use Rattle.std.proofs.Common.{◌≡◌, ◌||◌, ◌∙◌, Bool, true, false, refl, sym, get_or, pos}
 use Rattle.std.proofs.lemmas.Int.{to_z-of_z}
-use Rattle.literal_marks.proofs.MarksLaws.{has_literal-more}
-use Rattle.literal_marks.proofs.PlacesLaws.{literal_fits}
+use Rattle.cnf.proofs.literal_marks.MarksLaws.{has_literal-more}
+use Rattle.cnf.proofs.literal_marks.PlacesLaws.{literal_fits}
 use Rattle.search.specs.Chains.{skips}
 use Rattle.search.proofs.ChainLaws.{added_then, others_added, others_kept}
 use Rattle.search.proofs.LookLaws.{has_at}

@@ -2,9 +2,9 @@ use Rattle.std.proofs.Common.{◌≡◌, sym, refl, get_or, pos, neg_ℤ, true, 
 use Rattle.std.specs.Prelude.{slice_get}
 use Rattle.std.proofs.lemmas.Int.{to_z-of_z}
 use Rattle.std.proofs.lemmas.Option.{slice_get-get_or}
-use Rattle.literal_marks.proofs.PlacesLaws.{literal_fits}
-use Rattle.literal_marks.specs.Marks.{marked}
-use Rattle.literal_marks.specs.declared.places.Places.TheVariants.{ByKey}
+use Rattle.cnf.proofs.literal_marks.PlacesLaws.{literal_fits}
+use Rattle.cnf.specs.literal_marks.Marks.{marked}
+use Rattle.cnf.specs.declared.literal_marks.places.Places.TheVariants.{ByKey}
 use Rattle.search.specs.declared.trail.Entry.{Entry}
 use Rattle.search.specs.Machine.{IsOver}
 use Rattle.search.specs.Sound.{all_clauses}

@@ -5,7 +5,7 @@ use Rattle.std.proofs.lemmas.Int.{to_z-of_z}
 use Rattle.std.proofs.lemmas.List.{take_more}
 use Rattle.std.proofs.lemmas.Option.{get_or_from_slice_get}
 use Rattle.cnf.specs.Clauses.{literal_key}
-use Rattle.literal_marks.proofs.PlacesLaws.{literal_fits}
+use Rattle.cnf.proofs.literal_marks.PlacesLaws.{literal_fits}
 use Rattle.search.proofs.ChainLaws.{conflict_falses, located_at, reach_more}
 use Rattle.search.proofs.LookLaws.{has_at}
 use Rattle.search.proofs.conflict.reach_of.Goals as goal

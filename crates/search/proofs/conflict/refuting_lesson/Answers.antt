@@ -2,8 +2,8 @@ use Rattle.std.proofs.Common.{◌≡◌, ◌∙◌, ℕ, ap}
 use Rattle.std.specs.Prelude.{ℤ}
 use Rattle.std.specs.Global.{Vec}
 use Rattle.cnf.specs.Clauses.{has_literal}
-use Rattle.literal_marks.specs.Marks.{marked}
-use Rattle.literal_marks.specs.declared.places.Places.TheVariants.{ByKey}
+use Rattle.cnf.specs.literal_marks.Marks.{marked}
+use Rattle.cnf.specs.declared.literal_marks.places.Places.TheVariants.{ByKey}
 use Rattle.search.specs.Sound.{all_clauses}
 use Rattle.search.proofs.ChainLaws.{back_begins, clause_keys}
 use Rattle.search.proofs.ConflictLaws.{first_falses, first_marks, lesson_refutes, refuting_clear}

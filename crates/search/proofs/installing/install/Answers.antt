@@ -1,7 +1,7 @@
 use Rattle.std.proofs.Common.{◌≡◌, ◌≤◌, ◌∷◌, ◌∙◌, [], length, get_or, pos, Some, ap, arith}
 use Rattle.std.specs.Prelude.{slice_get}
 use Rattle.std.proofs.lemmas.Int.{to_z-of_z}
-use Rattle.literal_marks.proofs.PlacesLaws.{literal_fits}
+use Rattle.cnf.proofs.literal_marks.PlacesLaws.{literal_fits}
 use Rattle.search.proofs.BackLaws.{literal-over}
 use Rattle.search.proofs.InstallLaws.{empty_list, front_clause, installed_pair, lone_list, own_literal, read_clause, refuted_empty, two_apart}
 use Rattle.search.proofs.LookLaws.{has_at}

@@ -3,7 +3,7 @@ use Rattle.std.specs.Prelude.{slice_get}
 use Rattle.std.proofs.lemmas.Int.{to_z-of_z}
 use Rattle.std.proofs.lemmas.Option.{slice_get-get_or}
 use Rattle.cnf.specs.Clauses.{IsLiteral}
-use Rattle.literal_marks.proofs.PlacesLaws.{literal_fits}
+use Rattle.cnf.proofs.literal_marks.PlacesLaws.{literal_fits}
 use Rattle.search.specs.declared.trail.Entry.{Entry}
 use Rattle.search.proofs.CutLaws.{unmarked_all, unmarked_next, unmarked_none}
 use Rattle.search.proofs.machine.unmark_entries.Goals as goal

@@ -1,8 +1,8 @@
 use Rattle.std.proofs.Common.{◌≡◌, ◌||◌, ℤ, length, take}
 use Rattle.std.specs.Prelude.{◌&&◌, not}
 use Rattle.cnf.specs.Clauses.{has_literal}
-use Rattle.literal_marks.specs.Marks.{marked}
-use Rattle.literal_marks.specs.declared.places.Places.TheVariants.{ByKey}
+use Rattle.cnf.specs.literal_marks.Marks.{marked}
+use Rattle.cnf.specs.declared.literal_marks.places.Places.TheVariants.{ByKey}
 use Rattle.search.specs.Chains.{IsWider, skips}
 use Rattle.search.proofs.minimizing.add_others_found.Given as goal
 

@@ -5,9 +5,9 @@ use Rattle.std.proofs.lemmas.Int.{to_z-of_z}
 use Rattle.std.proofs.lemmas.Option.{slice_get-get_or}
 use Rattle.cnf.specs.Checks.{numbered}
 use Rattle.cnf.specs.Clauses.{has_literal}
-use Rattle.literal_marks.proofs.PlacesLaws.{literal_fits}
-use Rattle.literal_marks.specs.Marks.{marked}
-use Rattle.literal_marks.specs.declared.places.Places.TheVariants.{ByKey}
+use Rattle.cnf.proofs.literal_marks.PlacesLaws.{literal_fits}
+use Rattle.cnf.specs.literal_marks.Marks.{marked}
+use Rattle.cnf.specs.declared.literal_marks.places.Places.TheVariants.{ByKey}
 use Rattle.search.specs.declared.chain.Chain.{Chain}
 use Rattle.search.specs.Chains.{IsWider, skips, without}
 use Rattle.search.specs.Machine.{IsOver}

@@ -1,6 +1,6 @@
 use Rattle.std.proofs.Common.{◌∙◌, arith, refl}
-use Rattle.literal_marks.specs.Marks.{marked}
-use Rattle.literal_marks.specs.declared.places.Places.TheVariants.{ByKey}
+use Rattle.cnf.specs.literal_marks.Marks.{marked}
+use Rattle.cnf.specs.declared.literal_marks.places.Places.TheVariants.{ByKey}
 use Rattle.search.specs.declared.chain.Chain.{Chain}
 use Rattle.search.specs.Sound.{all_clauses}
 use Rattle.search.proofs.MinimizingLaws.{minimized_going, thinned_then}

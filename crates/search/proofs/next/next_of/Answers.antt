@@ -1,9 +1,9 @@
 use Rattle.std.proofs.Common.{◌≡◌, ℤ, true, false}
 use mathlib.Core.Path.{subst}
 use Rattle.std.proofs.lemmas.Int.{to_z-of_z}
-use Rattle.literal_marks.proofs.PlacesLaws.{literal_fits}
-use Rattle.literal_marks.specs.Marks.{marked}
-use Rattle.literal_marks.specs.declared.places.Places.TheVariants.{ByKey}
+use Rattle.cnf.proofs.literal_marks.PlacesLaws.{literal_fits}
+use Rattle.cnf.specs.literal_marks.Marks.{marked}
+use Rattle.cnf.specs.declared.literal_marks.places.Places.TheVariants.{ByKey}
 use Rattle.search.specs.declared.scan.Scan.TheVariants as scan
 use Rattle.search.specs.Machine.{IsOver, is_open, is_true}
 use Rattle.search.specs.Sound.{all_clauses}

@@ -2,7 +2,7 @@ use Rattle.std.proofs.Common.{◌≡◌, ◌∙◌, ◌<◌, refl, length}
 use Rattle.std.proofs.lemmas.Int.{to_z-of_z}
 use Rattle.std.proofs.lemmas.List.{length-map}
 use Rattle.std.proofs.lemmas.Option.{slice_get_within}
-use Rattle.literal_marks.proofs.MarksLaws.{int_eq-sym}
+use Rattle.cnf.proofs.literal_marks.MarksLaws.{int_eq-sym}
 use Rattle.search.specs.Watching.{list_of, watchers_of}
 use Rattle.search.proofs.ReadLaws.{rewatched}
 use Rattle.search.proofs.reading.rewatch.Goals as goal

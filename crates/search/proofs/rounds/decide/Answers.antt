@@ -1,6 +1,6 @@
 use Rattle.std.proofs.Common.{◌≡◌, ◌∙◌, ◌+◌, ◌<◌, length, vec_len, ap, arith}
 use Rattle.std.proofs.lemmas.Int.{to_z-of_z}
-use Rattle.literal_marks.proofs.PlacesLaws.{literal_fits}
+use Rattle.cnf.proofs.literal_marks.PlacesLaws.{literal_fits}
 use Rattle.search.proofs.BackLaws.{literal-over}
 use Rattle.search.proofs.NextLaws.{next_decide, next_model}
 use Rattle.search.proofs.ReadLaws.{quiet_all}

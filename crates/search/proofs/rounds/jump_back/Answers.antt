@@ -1,7 +1,7 @@
 use Rattle.std.proofs.Common.{◌≡◌, ◌+◌, ◌∙◌, length, refl, arith}
 use Rattle.std.proofs.lemmas.Int.{to_z-of_z}
-use Rattle.literal_marks.proofs.MarksLaws.{int_eq-sym}
-use Rattle.literal_marks.proofs.PlacesLaws.{literal_fits}
+use Rattle.cnf.proofs.literal_marks.MarksLaws.{int_eq-sym}
+use Rattle.cnf.proofs.literal_marks.PlacesLaws.{literal_fits}
 use Rattle.search.specs.declared.watching.Watching.{Watching}
 use Rattle.search.proofs.BackLaws.{literal-over}
 use Rattle.search.proofs.RoundLaws.{clause_over, jump_allowed, literal_over, searching_alone, searching_beside}

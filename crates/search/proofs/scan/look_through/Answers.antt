@@ -1,10 +1,10 @@
 use Rattle.std.proofs.Common.{◌≡◌, sym, arith, length, None, Some}
 use Rattle.std.specs.Prelude.{slice_get}
 use Rattle.cnf.specs.Checks.{clauses_before}
-use Rattle.literal_marks.specs.Marks.{marked}
-use Rattle.literal_marks.specs.declared.places.Places.TheVariants.{ByKey}
+use Rattle.cnf.specs.literal_marks.Marks.{marked}
+use Rattle.cnf.specs.declared.literal_marks.places.Places.TheVariants.{ByKey}
 use Rattle.std.proofs.lemmas.Int.{to_z-of_z}
-use Rattle.literal_marks.proofs.PlacesLaws.{literal_fits}
+use Rattle.cnf.proofs.literal_marks.PlacesLaws.{literal_fits}
 use Rattle.search.proofs.ScanLaws.{clauses_count, none_past, numbered_next, scan_all, scan_more, scan_unit}
 use Rattle.search.proofs.scan.look_through.Goals as goal
 use Rattle.search.proofs.scan.look_through.Goals.{in-Some+in-Unit, in-Some+in-Neither, in_default}

@@ -1,9 +1,9 @@
 use Rattle.std.proofs.Common.{pos, sym, ◌≡◌, neg_ℤ, [], ◌∷◌, false, get_or, option_to_list}
 use Rattle.std.proofs.lemmas.Int.{to_z-of_z}
 use Rattle.cnf.proofs.ClauseLaws.{literals_of_clause}
-use Rattle.literal_marks.proofs.PlacesLaws.{literal_fits}
-use Rattle.literal_marks.specs.Marks.{marked}
-use Rattle.literal_marks.specs.declared.places.Places.TheVariants.{ByKey}
+use Rattle.cnf.proofs.literal_marks.PlacesLaws.{literal_fits}
+use Rattle.cnf.specs.literal_marks.Marks.{marked}
+use Rattle.cnf.specs.declared.literal_marks.places.Places.TheVariants.{ByKey}
 use Rattle.search.specs.Machine.{remaining}
 use Rattle.search.proofs.StatusLaws.{empty_conflicts, left_literal, open_left, second_left, true_left, whole_left}
 use Rattle.search.proofs.status.status_of.Goals as goal

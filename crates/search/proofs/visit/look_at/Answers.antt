@@ -2,8 +2,8 @@ use Rattle.std.proofs.Common.{sym, refl}
 use Rattle.std.proofs.lemmas.Int.{to_z-of_z}
 use Rattle.cnf.specs.Clauses.{IsLiteral}
 use Rattle.cnf.proofs.ClauseLaws.{literal_in_clause}
-use Rattle.literal_marks.specs.Marks.{marked}
-use Rattle.literal_marks.specs.declared.places.Places.TheVariants.{ByKey}
+use Rattle.cnf.specs.literal_marks.Marks.{marked}
+use Rattle.cnf.specs.declared.literal_marks.places.Places.TheVariants.{ByKey}
 use Rattle.search.proofs.LookLaws.{all_but_one, all_false, satisfied_by}
 use Rattle.search.proofs.visit.look_at.Goals as goal
 

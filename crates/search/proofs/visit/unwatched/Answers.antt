@@ -1,7 +1,7 @@
 use Rattle.std.proofs.Common.{sym, get_or, pos, ap, of_z, w32}
 use Rattle.std.proofs.lemmas.Int.{to_z-of_z}
 use Rattle.cnf.proofs.ClauseLaws.{literals_of_clause}
-use Rattle.literal_marks.proofs.PlacesLaws.{literal_fits}
+use Rattle.cnf.proofs.literal_marks.PlacesLaws.{literal_fits}
 use Rattle.search.proofs.LookLaws.{has_at, other_test}
 use Rattle.search.proofs.visit.unwatched.Goals as goal
 

@@ -1,8 +1,8 @@
 use Rattle.std.proofs.Common.{◌≡◌, ℤ, neg_ℤ, true, false, take}
 use Rattle.std.specs.Ordering.{int_eq}
 use Rattle.cnf.specs.Clauses.{has_literal}
-use Rattle.literal_marks.specs.Marks.{marked}
-use Rattle.literal_marks.specs.declared.places.Places.TheVariants.{ByKey}
+use Rattle.cnf.specs.literal_marks.Marks.{marked}
+use Rattle.cnf.specs.declared.literal_marks.places.Places.TheVariants.{ByKey}
 use Rattle.search.proofs.visit.unwatched.Given as goal
 
 abbrev pub invariant-loop-literal : goal.invariant-loop-literal

@@ -1,5 +1,5 @@
 use Rattle.std.proofs.Common.{sym, subst, arith}
-use Rattle.confirmation.specs.Outcomes.{IsOutcome}
+use Rattle.search_checked.specs.Outcomes.{IsOutcome}
 use Rattle.search.specs.Nexts.{IsModel}
 use Rattle.suite.proofs.Refuted.{none_hits}
 use Rattle.suite.proofs.SeekingLaws.{exact_for}

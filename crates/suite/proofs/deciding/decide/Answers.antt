@@ -1,7 +1,7 @@
 use Rattle.std.proofs.Common.{ℕ, ◌∙◌, Option, subst}
 use Rattle.std.specs.Prelude.{IfOk, IfSome}
 use Rattle.std.proofs.lemmas.Result.{IfOk-weaker}
-use Rattle.given.specs.declared.goal.Goal.{Goal}
+use Rattle.suite_problem.specs.declared.goal.Goal.{Goal}
 use Rattle.suite.specs.Seeking.{IsDecidedAt, IsOpenAt, Seeking}
 use Rattle.suite.specs.declared.decided.Decided.{Decided}
 use Rattle.suite.proofs.Short.{open_where_short}

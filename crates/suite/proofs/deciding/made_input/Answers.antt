@@ -4,7 +4,7 @@ use Rattle.c_meaning.specs.declared.input.Input.{Input}
 use Rattle.c_values.specs.Kind.{IsKind}
 use Rattle.c_values.specs.declared.kinds.Kind.{Kind}
 use Rattle.cfa.specs.Graph.{IsGraph}
-use Rattle.given.specs.declared.goal.Goal.{Goal}
+use Rattle.suite_problem.specs.declared.goal.Goal.{Goal}
 use Rattle.goal_formula.specs.Bits.{assignment, input_from}
 use Rattle.path_runner.specs.Paths.{record_of}
 use Rattle.unwinder.proofs.Made.{parameter_kinds}

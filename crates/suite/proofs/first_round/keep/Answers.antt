@@ -1,5 +1,5 @@
 use Rattle.std.proofs.Common.{◌-◌, sym, subst, arith}
-use Rattle.given.specs.declared.goal.Goal.{Goal}
+use Rattle.suite_problem.specs.declared.goal.Goal.{Goal}
 use Rattle.goals.specs.GoalForm.{GoalForm}
 use Rattle.suite.specs.Seeking.{IsDecidedAs, IsGoalOf, IsNoneFrom, Seeking}
 use Rattle.suite.proofs.Firsts.{there_at}

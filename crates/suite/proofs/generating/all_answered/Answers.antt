@@ -1,12 +1,12 @@
 use Rattle.std.proofs.Common.{◌≡◌, ◌∙◌, ◌+◌, ◌-◌, ◌<◌, ℕ, List, [], ◌∷◌, Some, ap, length, length-append, subst, sym, arith}
 use Rattle.std.specs.Prelude.{slice_get}
-use Rattle.given.specs.declared.given.Given.{Given}
-use Rattle.given.specs.declared.goal.Goal.{Goal}
+use Rattle.suite_problem.specs.declared.given.Given.{Given}
+use Rattle.suite_problem.specs.declared.goal.Goal.{Goal}
 use Rattle.goals.specs.declared.answer.Answer.{Answer}
 use Rattle.measurer.specs.Measurers.{IsMadeFor}
 use Rattle.suite.specs.Progress.{AnswersMore, IsNext, so_far}
 use Rattle.suite.specs.Seeking.{IsGoalOf}
-use Rattle.given.specs.declared.generated.Generated.{Generated}
+use Rattle.suite_problem.specs.declared.generated.Generated.{Generated}
 use Rattle.suite.proofs.Answering.{all_begin, all_more, answers_kept, next_more}
 use Rattle.suite.proofs.Firsts.{there_at}
 use Rattle.suite.proofs.RoundLaws.{same_after, same_as, same_given, same_turned}

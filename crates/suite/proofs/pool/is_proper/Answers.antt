@@ -1,7 +1,7 @@
 use Rattle.std.proofs.Common.{List, Bool, ℕ, sym, subst, ◌∙◌}
 use Rattle.std.specs.Prelude.{IsTrue}
 use Rattle.std.proofs.lemmas.Result.{IfOk-weaker}
-use Rattle.candidates.specs.Within.{AreEdgesWithin}
+use Rattle.suite.specs.candidates.Within.{AreEdgesWithin}
 use Rattle.path_runner.specs.Counted.{counts_end}
 use Rattle.suite.specs.Inside.{IsProper}
 use Rattle.suite.proofs.pool.is_proper.Goals as goal

@@ -1,5 +1,5 @@
 use Rattle.std.proofs.Common.{◌≡◌, Some, None, option_copied, refl, sym, ap, subst, ◌∙◌, slice_get}
-use Rattle.typed_trees.specs.declared.unit.Typed.{Typed}
+use Rattle.c_typed_trees.specs.declared.unit.Typed.{Typed}
 use Rattle.tree_meaning.specs.declared.machine.Machine.{Machine}
 use Rattle.tree_meaning.specs.declared.task.ValueTask.TheVariants as value
 use Rattle.tree_meaning.specs.declared.way.Way.TheVariants.{GoesOn}

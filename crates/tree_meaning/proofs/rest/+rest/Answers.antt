@@ -1,6 +1,6 @@
 use Rattle.std.proofs.Common.{rules}
 use Rattle.std.proofs.lemmas.Result.{err_from_is_err_and}
-use Rattle.typed_trees.specs.declared.expression.TypedExprForm.{the_lemmas}
+use Rattle.c_typed_trees.specs.declared.expression.TypedExprForm.{the_lemmas}
 use Rattle.tree_meaning.proofs.Fits.{load_fit, convert_fit, unary_fit, left_fit, right_fit, operands_fit, index_fit}
 use Rattle.tree_meaning.proofs.Forms.{value_kind}
 use Rattle.tree_meaning.proofs.Rests.{load_left, convert_left, unary_left, binary_left, binary_rest, left_trap, right_trap, element_left, element_cell}

@@ -1,5 +1,5 @@
-use Rattle.typed_trees.specs.declared.expression.TypedExpr.{size-TypedExpr}
-use Rattle.typed_trees.specs.declared.expression.TypedPlace.{size-TypedPlace}
+use Rattle.c_typed_trees.specs.declared.expression.TypedExpr.{size-TypedExpr}
+use Rattle.c_typed_trees.specs.declared.expression.TypedPlace.{size-TypedPlace}
 use Rattle.tree_meaning.proofs.rest.+rest.Given as goal
 
 abbrev pub decreases-value_of : goal.decreases-value_of

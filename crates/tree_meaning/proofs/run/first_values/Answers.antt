@@ -1,5 +1,5 @@
 use Rattle.std.proofs.Common.{◌≡◌, ◌<◌, List, length, get_or, subst}
-use Rattle.typed_trees.specs.declared.unit.Global.{Global}
+use Rattle.c_typed_trees.specs.declared.unit.Global.{Global}
 use Rattle.tree_meaning.proofs.Beginnings.{values_next}
 use Rattle.tree_meaning.proofs.run.first_values.Goals as goal
 

@@ -1,7 +1,7 @@
 use Rattle.std.proofs.Common.{◌≡◌, ◌≤◌, List, length, subst}
 use Rattle.c_meaning.specs.Starts.{fitted_words}
 use Rattle.cfa.specs.declared.parts.Variable.{Variable}
-use Rattle.typed_trees.specs.Fitting.{word_kinds}
+use Rattle.c_typed_trees.specs.Fitting.{word_kinds}
 use Rattle.tree_meaning.proofs.Beginnings.{words_end}
 use Rattle.tree_meaning.proofs.run.words_of.Goals as goal
 

@@ -1,7 +1,7 @@
 use Rattle.std.proofs.Common.{◌≡◌, ◌++◌, drop}
 use Rattle.std.specs.Prelude.{filter_map}
 use Rattle.c_meaning.specs.Starts.{fitted_words}
-use Rattle.typed_trees.specs.Fitting.{word_kind}
+use Rattle.c_typed_trees.specs.Fitting.{word_kind}
 use Rattle.tree_meaning.proofs.run.words_of.Given as goal
 
 abbrev pub invariant-loop-parameter : goal.invariant-loop-parameter

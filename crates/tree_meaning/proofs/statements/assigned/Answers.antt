@@ -1,5 +1,5 @@
 use Rattle.std.proofs.Common.{◌≡◌, Ok, refl, rules}
-use Rattle.typed_trees.specs.declared.expression.TypedPlace.{out-TypedPlace}
+use Rattle.c_typed_trees.specs.declared.expression.TypedPlace.{out-TypedPlace}
 use Rattle.tree_meaning.specs.declared.stop.Stop.TheVariants as stop
 use Rattle.tree_meaning.specs.Running.{placed_in}
 use Rattle.tree_meaning.proofs.AssignSteps.{assign_own_kind, assign_operator_kind, assign_value_fits, assigned_made, made_traps}

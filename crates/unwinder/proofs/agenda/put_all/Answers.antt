@@ -1,7 +1,7 @@
 use Rattle.std.proofs.Common.{List, ℕ, ◌+◌, ◌≤◌, ap, arith, get_or, length, length-append, subst, ◌∙◌, ◌≡◌, ◌<◌, ◌∷◌, [], Some}
 use Rattle.std.specs.Prelude.{slice_get}
 use Rattle.std.proofs.lemmas.Option.{slice_get-get_or}
-use Rattle.reached.specs.declared.step.Step.{Step}
+use Rattle.unwinder_reach.specs.declared.reached.step.Step.{Step}
 use Rattle.unwinder.proofs.AgendaLaws.{put_begins, put_goes_on}
 use Rattle.unwinder.proofs.agenda.put_all.Goals as goal
 

@@ -1,7 +1,7 @@
 use Rattle.std.proofs.Common.{arith, get_or}
 use Rattle.std.proofs.lemmas.Option.{slice_get-get_or}
 use Rattle.bit_words.proofs.Steps.{grows_then, grows_within}
-use Rattle.reached.specs.declared.step.Step.{Step}
+use Rattle.unwinder_reach.specs.declared.reached.step.Step.{Step}
 use Rattle.unwinder.proofs.WayLaws.{along_all, along_more}
 use Rattle.unwinder.proofs.onward.onward.Goals as goal
 

@@ -1,6 +1,6 @@
 use Rattle.std.proofs.Common.{◌≡◌, ℕ, ◌<◌, Some}
 use Rattle.std.specs.Prelude.{slice_get}
-use Rattle.sym_steps.specs.declared.state.Way.{Way}
+use Rattle.sym_expr.specs.declared.sym_steps.state.Way.{Way}
 use Rattle.unwinder.proofs.onward.taken_along.Given as goal
 
 abbrev pub invariant-loop-i : goal.invariant-loop-i

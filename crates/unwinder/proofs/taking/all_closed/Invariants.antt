@@ -1,5 +1,5 @@
 use Rattle.std.proofs.Common.{◌≡◌, take, map}
-use Rattle.reached.specs.declared.step.Step.{Step}
+use Rattle.unwinder_reach.specs.declared.reached.step.Step.{Step}
 use Rattle.unwinder.proofs.WayLaws.{closed_along}
 use Rattle.unwinder.proofs.taking.all_closed.Given as goal
 

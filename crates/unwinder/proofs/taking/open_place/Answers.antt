@@ -1,10 +1,10 @@
 use Rattle.std.proofs.Common.{List, ap, arith, map, refl, subst, ◌∙◌}
 use Rattle.std.specs.List.{AllZip}
 use Rattle.bit_words.proofs.Steps.{grows_then, grows_within}
-use Rattle.unwinding_size.specs.Sizes.{predicates_weight}
+use Rattle.unwinder_reach.specs.unwinding_size.Sizes.{predicates_weight}
 use Rattle.sym_expr.specs.Weights.{operations_weight}
-use Rattle.sym_steps.specs.declared.state.SymState.{SymState}
-use Rattle.sym_steps.specs.declared.state.Way.{Way}
+use Rattle.sym_expr.specs.declared.sym_steps.state.SymState.{SymState}
+use Rattle.sym_expr.specs.declared.sym_steps.state.Way.{Way}
 use Rattle.unwinder.specs.Agenda.{entry_at}
 use Rattle.unwinder.proofs.WayLaws.{AlongStep}
 use Rattle.unwinder.proofs.PlaceLaws.{open_place_is, placed_states, same_placed}

@@ -1,4 +1,4 @@
-use Rattle.sym_steps.specs.Steps.{state_in}
+use Rattle.sym_expr.specs.sym_steps.Steps.{state_in}
 use Rattle.unwinder.proofs.Truths.{no_meaning, no_scope}
 use Rattle.unwinder.proofs.telling.truth.Goals as goal
 

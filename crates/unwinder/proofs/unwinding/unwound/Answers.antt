@@ -10,10 +10,10 @@ use Rattle.circuit.specs.declared.lit.Lit.{Lit}
 use Rattle.c_meaning.specs.declared.input.Input.{Input}
 use Rattle.c_meaning.specs.Starts.{fitted_words, start_of}
 use Rattle.sym_expr.specs.Stores.{cells_in}
-use Rattle.sym_steps.specs.Steps.{state_in}
+use Rattle.sym_expr.specs.sym_steps.Steps.{state_in}
 use Rattle.cfa.specs.declared.parts.Function.{Function}
 use Rattle.cfa.proofs.Exits.{given, taken}
-use Rattle.input_words.specs.Worlds.{world_length}
+use Rattle.unwinder.specs.input_words.Worlds.{world_length}
 use Rattle.unwinder.specs.declared.arrival.Arrival.{Arrival}
 use Rattle.unwinder.specs.Progress.{CanUnwind, Unwinds, begun}
 use Rattle.unwinder.proofs.Beginning.{begins, first_way}

@@ -1,4 +1,4 @@
-use Rattle.word_index.proofs.Steps.{on_ok}
+use Rattle.measurer_index.proofs.word_index.Steps.{on_ok}
 use Rattle.measurer.proofs.measurer.Measurer.add.Goals as goal
 
 pub returns-clause-hits : goal.returns-clause-hits

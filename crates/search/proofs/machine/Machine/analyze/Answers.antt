@@ -1,7 +1,7 @@
 use Rattle.std.proofs.Common.{◌≡◌, ◌∙◌, ◌++◌, length, take, drop, refl, ap, arith}
 use Rattle.std.specs.Vec.{with_items}
-use Rattle.literal_marks.specs.Marks.{IsClear, marked}
-use Rattle.literal_marks.specs.declared.places.Places.TheVariants.{ByKey}
+use Rattle.cnf.specs.literal_marks.Marks.{IsClear, marked}
+use Rattle.cnf.specs.declared.literal_marks.places.Places.TheVariants.{ByKey}
 use Rattle.search.specs.declared.machine.Machine.{Machine}
 use Rattle.search.proofs.CutLaws.{take_whole}
 use Rattle.search.proofs.TurnLaws.{at_ordered}

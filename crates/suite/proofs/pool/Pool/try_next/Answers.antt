@@ -5,7 +5,7 @@ use Rattle.std.proofs.lemmas.Slice.Zip.{AllZip-long}
 use Rattle.c_meaning.specs.Starts.{start_of}
 use Rattle.c_values.specs.Kind.{IsKind, IsValue}
 use Rattle.c_values.specs.declared.kinds.Kind.{Kind}
-use Rattle.candidates.specs.Row.{IsCandidate}
+use Rattle.suite.specs.candidates.Row.{IsCandidate}
 use Rattle.cfa.proofs.Exits.{given}
 use Rattle.cfa.specs.declared.parts.Function.{Function}
 use Rattle.path_runner.specs.Paths.{path_of}

@@ -1,5 +1,5 @@
 use Rattle.std.proofs.Common.{sym, subst}
-use Rattle.hits.specs.Hits.{path_in}
+use Rattle.measurer_hits.specs.hits.Hits.{path_in}
 use Rattle.path_runner.specs.declared.path.PathRecord.{PathRecord}
 use Rattle.patterns.specs.Paths.{IsPath}
 use Rattle.suite.proofs.Models.{has_made, record_is_path}

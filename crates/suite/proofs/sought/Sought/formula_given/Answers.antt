@@ -1,6 +1,6 @@
 use Rattle.std.proofs.Common.{sym, subst}
 use Rattle.goal_formula.specs.Forms.{HasWorlds}
-use Rattle.lessons.specs.Store.{Hold}
+use Rattle.search_lemmas.specs.Store.{Hold}
 use Rattle.unwinder.specs.declared.unwound.Unwound.{Unwound}
 use Rattle.suite.proofs.sought.Sought.formula_given.Goals as goal
 

@@ -1,0 +1,5 @@
+use Rattle.bounds_check_laws.proofs.ending_laws.Stays.{staying_inputs_end_soon}
+use Rattle.bounds_check_laws.proofs.ending_laws.staying_inputs_end_soon.Goals as goal
+
+pub returns : goal.returns
+returns c = staying_inputs_end_soon

@@ -1,7 +1,0 @@
-use Rattle.std.proofs.Common.{take}
-use Rattle.std.specs.List.{AllZip}
-use Rattle.c_values.specs.Kind.{IsValue}
-use Rattle.candidates.proofs.row.Candidates.words.Given as goal
-
-abbrev pub invariant-loop-slot : goal.invariant-loop-slot
-invariant-loop-slot l = AllZip IsValue (take l.slot l.kinds) l.words

@@ -1,6 +1,0 @@
-use Rattle.std.proofs.Common.{drop}
-use Rattle.candidates.specs.Standing.{IsOnWay}
-use Rattle.candidates.proofs.within.is_within.Given as goal
-
-abbrev pub invariant-loop-at : goal.invariant-loop-at
-invariant-loop-at l = IsOnWay l.graph l.bounds l.function l.edges (drop l.at-index l.edges) l.standing

@@ -1,5 +1,0 @@
-//! The tests of `candidates`, in a crate of their own so that `candidates` is proved once.
-#![tactic(auto)]
-
-#[cfg(test)]
-mod tests;

@@ -1,7 +1,0 @@
-use Rattle.std.specs.Prelude.{ℕ, List, [], ◌∷◌}
-use Rattle.chains.specs.declared.chain.Link.{Link}
-use Rattle.chains.specs.declared.chain.Link.TheVariants.{End, More}
-
-abbrev pub items : {T : Type 0} → Link T → List T
-items End = []
-items (More cell) = cell.value.first ∷ cell.value.rest

@@ -1,0 +1,6 @@
+use Rattle.command_laws.proofs.due_laws.AcceptedBounds.{bounds_certificates_are_accepted}
+use Rattle.command_laws.proofs.due_laws.laws.bounds_certificates_are_accepted.Goals as goal
+
+pub returns : goal.returns
+returns c =
+    bounds_certificates_are_accepted c.one_outcome.ensures c.one_outcome-2.ensures c.one_list_of_hits.ensures c.one_count.ensures c.one_size.ensures c.not_too_many.ensures

@@ -1,6 +1,0 @@
-use Rattle.std.proofs.Common.{All, take}
-use Rattle.confirmation.specs.Laws.{HasClause}
-use Rattle.confirmation.proofs.rising.lines_rise.Given as goal
-
-abbrev pub invariant-loop-line : goal.invariant-loop-line
-invariant-loop-line l = All HasClause (take l.line-index l.lines)

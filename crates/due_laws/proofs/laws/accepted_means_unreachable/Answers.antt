@@ -1,5 +1,0 @@
-use Rattle.due_laws.proofs.Unreachable.{accepted_means_unreachable}
-use Rattle.due_laws.proofs.laws.accepted_means_unreachable.Goals as goal
-
-pub returns : goal.returns
-returns c = accepted_means_unreachable c.one_outcome.ensures c.unhit_is_unreachable.ensures

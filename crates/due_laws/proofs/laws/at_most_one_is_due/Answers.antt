@@ -1,5 +1,0 @@
-use Rattle.due_laws.proofs.OneDue.{at_most_one}
-use Rattle.due_laws.proofs.laws.at_most_one_is_due.Goals as goal
-
-pub returns : goal.returns
-returns c = at_most_one c.one_outcome.ensures c.one_outcome-2.ensures c.one_outcome-3.ensures c.one_list_of_hits.ensures

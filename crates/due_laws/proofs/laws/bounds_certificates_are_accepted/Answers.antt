@@ -1,6 +1,0 @@
-use Rattle.due_laws.proofs.AcceptedBounds.{bounds_certificates_are_accepted}
-use Rattle.due_laws.proofs.laws.bounds_certificates_are_accepted.Goals as goal
-
-pub returns : goal.returns
-returns c =
-    bounds_certificates_are_accepted c.one_outcome.ensures c.one_outcome-2.ensures c.one_list_of_hits.ensures c.one_count.ensures c.one_size.ensures c.not_too_many.ensures

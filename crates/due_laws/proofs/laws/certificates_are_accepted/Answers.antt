@@ -1,6 +1,0 @@
-use Rattle.due_laws.proofs.Accepted.{certificates_are_accepted}
-use Rattle.due_laws.proofs.laws.certificates_are_accepted.Goals as goal
-
-pub returns : goal.returns
-returns c =
-    certificates_are_accepted c.one_outcome.ensures c.one_outcome-2.ensures c.one_list_of_hits.ensures c.one_count.ensures c.one_size.ensures c.not_too_many.ensures

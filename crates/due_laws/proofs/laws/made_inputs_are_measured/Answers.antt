@@ -1,5 +1,0 @@
-use Rattle.due_laws.proofs.Remeasured.{made_inputs_are_measured}
-use Rattle.due_laws.proofs.laws.made_inputs_are_measured.Goals as goal
-
-pub returns : goal.returns
-returns c = made_inputs_are_measured c.recorded_runs.ensures c.one_list_of_hits.ensures

@@ -1,5 +1,0 @@
-use Rattle.event_laws.proofs.Units.{unit_edges_tell}
-use Rattle.event_laws.proofs.laws.unit_edges_tell.Goals as goal
-
-pub returns : goal.returns
-returns c = unit_edges_tell

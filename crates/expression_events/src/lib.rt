@@ -1,7 +1,0 @@
-//! That the edges of expressions tell what happens in them: a law, along the simulation of `expression_laws`.
-//!
-//! `specs/Follows.antt` says what it is that a run does what a meaning says and that its edges tell the events of it, `Flows` what
-//! that is for conditions, first parts and calls, and `Laws` has the law. It is the contract of a function with an empty body.
-#![tactic(auto)]
-
-pub mod laws;

@@ -1,5 +1,0 @@
-use Rattle.expression_types.proofs.FirstLaws.{first_is_first, none_is_none}
-use Rattle.expression_types.proofs.laws.first_of_faults.Goals as goal
-
-pub returns : goal.returns
-returns c = (first_is_first, none_is_none)

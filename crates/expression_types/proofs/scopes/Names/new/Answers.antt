@@ -1,5 +1,0 @@
-use Rattle.expression_types.proofs.IndexLaws.{empty_named}
-use Rattle.expression_types.proofs.scopes.Names.new.Goals as goal
-
-pub invariant_of-result : goal.invariant_of-result
-invariant_of-result c = empty_named c.new-2.result c.new.result c.new-2.ensures.empty c.new.ensures

@@ -1,9 +1,0 @@
-use Rattle.std.proofs.Common.{◌≡◌, length}
-use Rattle.gap_words.proofs.Begins.{AreTabled}
-use Rattle.gap_words.proofs.path_places.all_begins.Given as goal
-
-abbrev pub invariant-loop-set : goal.invariant-loop-set
-invariant-loop-set l = record {
-  size : length l.all ≡ l.set-index;
-  tabled : AreTabled l.sets l.edges l.all l.set-index;
-}

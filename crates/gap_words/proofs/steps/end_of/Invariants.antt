@@ -1,9 +1,0 @@
-use Rattle.std.proofs.Common.{◌≤◌, length}
-use Rattle.gap_words.proofs.Going.{IsAt}
-use Rattle.gap_words.proofs.steps.end_of.Given as goal
-
-abbrev pub invariant-loop-piece : goal.invariant-loop-piece
-invariant-loop-piece l = record {
-  within : l.at ≤ length l.path.edges;
-  at : IsAt l.path l.part l.start l.piece-index l.at;
-}

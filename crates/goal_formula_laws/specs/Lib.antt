@@ -1,0 +1,2 @@
+pub mod formula_laws
+pub mod unwound_laws

@@ -1,5 +1,0 @@
-use Rattle.graph_paths.proofs.Ordered.{one_list}
-use Rattle.graph_paths.proofs.laws.one_list.Goals as goal
-
-pub returns : goal.returns
-returns c = one_list

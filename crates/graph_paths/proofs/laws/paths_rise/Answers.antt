@@ -1,5 +1,0 @@
-use Rattle.graph_paths.proofs.Ordered.{paths_rise}
-use Rattle.graph_paths.proofs.laws.paths_rise.Goals as goal
-
-pub returns : goal.returns
-returns c = paths_rise

@@ -1,6 +1,0 @@
-use Rattle.graph_paths.specs.Listing.{IsUnderWay}
-use Rattle.graph_paths.specs.Paths.{paths_of}
-use Rattle.graph_paths.proofs.listing.paths.Given as goal
-
-abbrev pub invariant-loop : goal.invariant-loop
-invariant-loop l = IsUnderWay l.ground (paths_of l.graph l.target l.k) l.edge_limit l.counter l.walk l.listing

@@ -1,6 +1,0 @@
-use Rattle.std.proofs.Common.{length}
-use Rattle.input_words.proofs.ListLemmas.{ArgumentsSoFar}
-use Rattle.input_words.proofs.words.argument_words.Given as goal
-
-abbrev pub invariant-loop-kind : goal.invariant-loop-kind
-invariant-loop-kind l = ArgumentsSoFar (length l.initial.circuit) l.parameters l.circuit l.words l.kind-index

@@ -1,9 +1,0 @@
-use Rattle.std.proofs.Common.{◌≡◌, length, take}
-use Rattle.lessons.specs.Known.{AreKnown}
-use Rattle.lessons.proofs.known.known_clauses.Given as goal
-
-abbrev pub invariant-loop-place : goal.invariant-loop-place
-invariant-loop-place l = record {
-  size : length l.marks.items ≡ l.place;
-  known : AreKnown l.held.circuit.now l.wires (take l.place l.refutation.formula.now.clauses) l.marks.items;
-}

@@ -1,8 +1,0 @@
-use Rattle.std.proofs.Common.{ℕ, List, Option}
-use Rattle.circuit.specs.declared.lit.Gate.{Gate}
-use Rattle.lessons.specs.Holding.{IsKnown}
-use Rattle.lessons.specs.Known.{AllKnown}
-use Rattle.lessons.proofs.learning.known_part.Given as goal
-
-abbrev pub invariant-loop-step : goal.invariant-loop-step
-invariant-loop-step l = (gates : List Gate) (wires : List (Option ℕ)) → AllKnown gates wires l.refutation l.marks → IsKnown gates wires l.clause

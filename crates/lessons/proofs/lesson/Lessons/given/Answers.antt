@@ -1,6 +1,0 @@
-use Rattle.std.proofs.Common.{sym, subst}
-use Rattle.lessons.specs.Store.{AllHold}
-use Rattle.lessons.proofs.lesson.Lessons.given.Goals as goal
-
-pub invariant_of-held : goal.invariant_of-held
-invariant_of-held c = record { hold = subst (AllHold c.args.circuit.now) (sym c.deref.ensures.value) c.requires.lessons }

@@ -1,6 +1,0 @@
-use Rattle.std.proofs.Common.{take}
-use Rattle.lessons.specs.Naming.{AreNamed}
-use Rattle.lessons.proofs.naming.are_named.Given as goal
-
-abbrev pub invariant-loop-at : goal.invariant-loop-at
-invariant-loop-at l = AreNamed l.table (take l.at l.literals) (take l.at l.others)

@@ -1,4 +1,0 @@
-use Rattle.lessons_tests.proofs.learned.new_store.Goals as goal
-
-pub returns : goal.returns
-returns c = c.new.ensures c.args._circuit.now

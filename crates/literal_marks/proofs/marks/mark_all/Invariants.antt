@@ -1,9 +1,0 @@
-use Rattle.std.proofs.Common.{◌≡◌, ◌||◌, take}
-use Rattle.std.specs.Prelude.{ℤ}
-use Rattle.cnf.specs.Clauses.{has_literal}
-use Rattle.literal_marks.specs.Marks.{marked}
-use Rattle.literal_marks.proofs.marks.mark_all.Given as goal
-
-abbrev pub invariant-loop-literal : goal.invariant-loop-literal
-invariant-loop-literal l =
-    (x : ℤ) → marked l.places l.marks x ≡ (marked l.places l.initial.marks x || has_literal (take l.literal-index l.literals) x)

@@ -1,0 +1,3 @@
+pub mod occurrences
+pub mod gap_words
+pub mod word_index

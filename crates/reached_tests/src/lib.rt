@@ -1,5 +1,0 @@
-//! The tests of `reached`, in a crate of their own so that `reached` is proved once.
-#![tactic(auto)]
-
-#[cfg(test)]
-mod tests;

@@ -1,5 +1,0 @@
-use Rattle.reduction.proofs.Irredundant as laws
-use Rattle.reduction.proofs.laws.kept_hit_all.Goals as goal
-
-pub returns : goal.returns
-returns c = laws.kept_hit_all

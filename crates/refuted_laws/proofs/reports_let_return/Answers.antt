@@ -1,5 +1,0 @@
-use Rattle.refuted_laws.proofs.Ends.{reports_let_return}
-use Rattle.refuted_laws.proofs.reports_let_return.Goals as goal
-
-pub returns : goal.returns
-returns c = reports_let_return c.one_outcome.ensures c.automata_return_plainly.ensures c.all_ends_are_asked.ensures c.answers_are_read.ensures c.each_returns.ensures

@@ -1,0 +1,5 @@
+use Rattle.suite_reduction.proofs.Irredundant as laws
+use Rattle.suite_reduction.proofs.laws.kept_are_needed.Goals as goal
+
+pub returns : goal.returns
+returns c = laws.kept_are_needed

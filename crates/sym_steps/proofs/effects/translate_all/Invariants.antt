@@ -1,5 +1,0 @@
-use Rattle.sym_steps.proofs.EffectLemmas.{WordsSoFar}
-use Rattle.sym_steps.proofs.effects.translate_all.Given as goal
-
-abbrev pub invariant-loop-word : goal.invariant-loop-word
-invariant-loop-word l = WordsSoFar l.initial.circuit l.circuit l.store.cells l.frame l.words l.values l.fine l.word-index

@@ -1,5 +1,0 @@
-use Rattle.sym_steps.proofs.StartLemmas.{ConstantsSoFar}
-use Rattle.sym_steps.proofs.starting.constants.Given as goal
-
-abbrev pub invariant-loop-value : goal.invariant-loop-value
-invariant-loop-value l = ConstantsSoFar l.values l.words l.value-index

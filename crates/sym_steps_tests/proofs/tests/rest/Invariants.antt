@@ -1,6 +1,0 @@
-use Rattle.std.specs.Prelude.{All}
-use Rattle.circuit.specs.Wires.{IsWire}
-use Rattle.sym_steps_tests.proofs.tests.rest.Given as goal
-
-abbrev pub invariant-loop-at : goal.invariant-loop-at
-invariant-loop-at l = All (All (IsWire l.circuit)) l.rest.items

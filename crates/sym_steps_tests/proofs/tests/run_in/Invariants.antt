@@ -1,7 +1,0 @@
-use Rattle.std.specs.Prelude.{All}
-use Rattle.circuit.specs.Wires.{IsWire}
-use Rattle.sym_steps.specs.Steps.{AreStates}
-use Rattle.sym_steps_tests.proofs.tests.run_in.Given as goal
-
-abbrev pub invariant-loop-taken : goal.invariant-loop-taken
-invariant-loop-taken l = AreStates l.graph l.circuit l.state × All (All (IsWire l.circuit)) l.state.store.cells × All (All (IsWire l.circuit)) l.answers

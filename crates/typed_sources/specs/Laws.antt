@@ -1,9 +1,0 @@
--- What the definitions imply.
-use Rattle.std.specs.Prelude.{List}
-use Rattle.c_lex.specs.declared.token.SourceText.{SourceText}
-use Rattle.c_parse.specs.Laws as parse
-use Rattle.typed_sources.specs.Trees.{IsRefused, IsTypedOf}
-
--- texts have a typed tree or are refused with a code at a place, and there is only one of all these
-abbrev pub HasOneOutcome : List SourceText → Type 0
-HasOneOutcome texts = parse.HasOneOutcome (IsTypedOf texts) (IsRefused texts)

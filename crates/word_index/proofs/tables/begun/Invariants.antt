@@ -1,9 +1,0 @@
-use Rattle.std.proofs.Common.{◌≡◌, length}
-use Rattle.word_index.proofs.Begun.{Tabled}
-use Rattle.word_index.proofs.tables.begun.Given as goal
-
-abbrev pub invariant-loop-number : goal.invariant-loop-number
-invariant-loop-number l = record {
-  length : length l.groups ≡ l.number;
-  begun : Tabled l.goals l.order l.absents l.edges l.groups;
-}
