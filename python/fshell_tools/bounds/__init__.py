@@ -1,0 +1,1 @@
+"""Bounds of runs: whether they are sufficient, and how large the unwinding within them is."""

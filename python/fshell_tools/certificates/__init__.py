@@ -1,0 +1,1 @@
+"""Certificates in the formats of other checkers."""

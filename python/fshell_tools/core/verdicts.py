@@ -1,0 +1,135 @@
+"""What is said of goals: one vocabulary for all tools, what a percentage is of, and when a gate passes.
+
+`refuted within the bounds` is what the program says of a goal: no run within the bounds hits it. `unreachable` is said of it only
+where `bounds` says that no run at all leaves the same bounds, and nothing restricts that (`Limits.restriction`). A percentage is
+covered of the goals less the unreachable ones; a goal that is refuted within the bounds alone stays in the denominator, since an
+input may hit it beyond them.
+"""
+
+import argparse
+import enum
+from collections import Counter
+from collections.abc import Iterable
+from dataclasses import dataclass, field
+
+from fshell_tools.core.reports import Input
+
+
+class Verdict(enum.StrEnum):
+    """What is said of a goal, in the words of reports."""
+
+    COVERED = "covered"
+    MISSED = "missed"
+    UNDECIDED = "undecided"
+    REFUTED = "refuted within the bounds"
+    UNREACHABLE = "unreachable"
+
+    @property
+    def mark(self) -> str:
+        """The verdict in one word, as the program writes it, for options and styles."""
+        return "refuted" if self is Verdict.REFUTED else self.value
+
+
+# the words of the program's reports
+WORDS = {verdict.mark: verdict for verdict in Verdict if verdict is not Verdict.UNREACHABLE}
+
+
+@dataclass(frozen=True)
+class Limits:
+    """What is known of bounds: whether the program says that no run leaves them (None: it wasn't asked, or left it open), an
+    input whose run does, and where that leaves them. `restriction` is why a refuted goal isn't called unreachable though the
+    bounds suffice, such as the place of an expression whose order of evaluation C leaves open."""
+
+    suffice: bool | None = None
+    left: Input | None = None
+    where: str = ""
+    restriction: str = ""
+
+    @property
+    def make_unreachable(self) -> bool:
+        """Whether a goal that is refuted within them is unreachable."""
+        return self.suffice is True and not self.restriction
+
+
+UNKNOWN = Limits()
+
+
+def of_word(word: str, limits: Limits = UNKNOWN) -> Verdict:
+    """The verdict that a word of the program's report means, by what is known of its bounds; KeyError where it is none."""
+    verdict = WORDS[word]
+    return Verdict.UNREACHABLE if verdict is Verdict.REFUTED and limits.make_unreachable else verdict
+
+
+@dataclass(frozen=True)
+class Tally:
+    """How many goals have which verdict."""
+
+    counts: Counter[Verdict] = field(default_factory=Counter)
+
+    @property
+    def goals(self) -> int:
+        """How many goals were counted."""
+        return sum(self.counts.values())
+
+    @property
+    def reachable(self) -> int:
+        """The goals of which a percentage is taken: all but the unreachable ones."""
+        return self.goals - self.counts[Verdict.UNREACHABLE]
+
+    @property
+    def is_open(self) -> bool:
+        """Whether some are undecided."""
+        return self.counts[Verdict.UNDECIDED] > 0
+
+    def line(self, what: str = "goals") -> str:
+        """The percentage in words."""
+        covered, of_all = self.counts[Verdict.COVERED], self.reachable
+        part = f", {percentage(covered, of_all)}" if of_all else ""
+        return f"covered {covered} of {of_all} {what} that aren't unreachable{part}"
+
+    def text(self, what: str = "goals") -> str:
+        """The number of goals of each verdict that there is, and of those that are covered or undecided in any case."""
+        always = (Verdict.COVERED, Verdict.UNDECIDED)
+        told = [f"{self.counts[one]} {one}" for one in Verdict if self.counts[one] or one in always]
+        return f"{what} {self.goals}: {', '.join(told)}"
+
+
+def tally(verdicts: Iterable[Verdict]) -> Tally:
+    """How many of them are which."""
+    return Tally(Counter(verdicts))
+
+
+def percentage(part: int, whole: int) -> str:
+    """A percentage that is never rounded up: 100% means all."""
+    hundredths = 10_000 * part // whole
+    return f"{hundredths // 100}%" if hundredths % 100 == 0 else f"{hundredths // 100}.{hundredths % 100:02d}%"
+
+
+def percent(word: str) -> float:
+    """The number of percent of `--at-least`, from 0 to 100. Raises argparse.ArgumentTypeError for another text."""
+    try:
+        if 0 <= float(word) <= 100:
+            return float(word)
+    except ValueError:
+        pass
+    raise argparse.ArgumentTypeError(f"{word} isn't from 0 to 100")
+
+
+def failures(found: Tally, at_least: float, made: int) -> list[str]:
+    """Why a gate of so many percent fails, a line each; none where it passes. `made` is the number of inputs that there are."""
+    why = []
+    covered = found.counts[Verdict.COVERED]
+    if not found.goals:
+        why.append("the query has no goal, so nothing was tested")
+    elif not found.reachable:
+        why.append("each goal is unreachable, so nothing is left to be covered")
+    elif 100 * covered < at_least * found.reachable:
+        why.append(f"{percentage(covered, found.reachable)} is less than {at_least:g}%: {covered} of {found.reachable}")
+    if not made:
+        why.append("there is no input, so nothing was run")
+    return why
+
+
+def gate_line(at_least: float, why: list[str]) -> str:
+    """The gate's judgement in one line, by why it fails."""
+    return f"the gate of {at_least:g}% fails: {'; '.join(why)}" if why else f"the gate of {at_least:g}% passes"

@@ -1,0 +1,1 @@
+"""Coverage of reports and runs: explanations, lcov, MC/DC and pages."""

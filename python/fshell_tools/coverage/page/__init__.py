@@ -1,0 +1,1 @@
+"""Reports as one HTML file: its data, pictures, tabs and templates."""

@@ -1,0 +1,1 @@
+"""C files that run inputs on another compiler."""

@@ -1,0 +1,1 @@
+"""Evaluation order: which expressions C leaves unsequenced, and whether that matters."""

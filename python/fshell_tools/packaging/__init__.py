@@ -1,0 +1,1 @@
+"""Installation under a prefix, and the Debian package."""

@@ -1,0 +1,1 @@
+"""Run-time errors: a verdict for each operation that can fail."""

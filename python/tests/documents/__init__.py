@@ -1,0 +1,1 @@
+"""Checks of documents, of crates.txt and of docstrings."""

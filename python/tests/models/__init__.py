@@ -1,0 +1,1 @@
+"""Independent models that tests compare with: evaluation orders, decision trees and gcc."""

@@ -1,0 +1,1 @@
+"""Tests of the proved program and of the scripts of bin/, from outside."""

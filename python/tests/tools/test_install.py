@@ -1,0 +1,272 @@
+"""The cases of bin/install and bin/package: what they put under a folder works there, its manual pages are shown without a warning,
+and completion and documents know each option that a tool has."""
+
+import os
+import re
+import resource
+import shutil
+import subprocess
+from collections.abc import Iterator
+
+from tests import environment
+from tests.tools import Case, example, put, run
+
+COMMANDS = ["fshell-" + name for name in ("measure", "goals", "runs", "generate", "prove", "check", "bounds", "prove-bounds", "check-bounds", "least", "traces", "replay", "trees", "events", "graph", "sample")]  # fmt: skip
+TOOLS = ["fshell-" + name for name in ("inputs", "explain", "lcov", "harness", "campaign", "page", "mcdc", "order", "rte", "adapt", "driver", "project", "drat")]  # fmt: skip
+CASES = [
+    Case("install: a folder that can't be made", ["install", "a/b"], {"a": "a file\n"}, 2, "", "install: a/b/bin: Not a directory\n"),
+]  # fmt: skip
+
+
+def installed_tools_work(folder: str) -> Iterator[bool]:
+    yield run(folder, ["install", "to"]).returncode == 0
+    put(folder, {"both.c": example("counting/both.c")})
+    yield sorted(os.listdir(os.path.join(folder, "to", "bin"))) == sorted(["fshell", *TOOLS])
+    own = {name: value for name, value in os.environ.items() if name != "FSHELL"}
+
+    def installed(name: str, *words: str) -> subprocess.CompletedProcess[str]:
+        path = os.path.join(folder, "to", "bin", name)
+        return subprocess.run([path, *words], cwd=folder, env=own, capture_output=True, text=True)
+
+    query = "cover @LINE(9)"
+    made = installed("fshell", "generate", "--answers", "2", "both", query, "both.c")
+    yield made.stdout.endswith("covered 1 refuted 0 undecided 0 of 1\n")
+    put(folder, {"made": made.stdout})
+    yield installed("fshell-inputs", "made").stdout == '[{"args": [1], "answers": [5, 9]}]\n'
+    yield all(installed(name, "--help").stdout.startswith("usage: ") for name in TOOLS)
+    yield installed("fshell", "--help").stdout.startswith("Commands:\n  fshell measure ")
+    yield installed(
+        "fshell", "--explain", "66"
+    ).stdout == "66 PredicateNowhere: a predicate is typable in no node's scope\n"
+    # (the documents that the help names)
+    lib = os.path.join(folder, "to", "lib", "fshell")
+    yield all(os.path.exists(os.path.join(lib, name)) for name in ("README.md", "docs/COMMANDS.md", "docs/REFUSALS.md"))
+    # once more, over what is there
+    yield run(folder, ["install", "to"]).returncode == 0 and installed("fshell-inputs", "made").returncode == 0
+
+
+def installed_adapt_has_its_models(folder: str) -> Iterator[bool]:
+    """What adapt writes by the models of string.h, and what it writes of checked operations, which bin/rte reads."""
+    prefix = os.path.join(folder, "usr")
+    yield run(folder, ["install", prefix]).returncode == 0
+    put(
+        folder,
+        {
+            "a.c": "#include <string.h>\nstatic char a[4], b[4];\nint f(int x) {\n  memcpy(a, b, 4);\n  return a[x & 3] - x;\n}\n"
+        },
+    )
+    made = subprocess.run(
+        [f"{prefix}/bin/fshell-adapt", "a.c", "-o", "ad", "--check-overflow"],
+        cwd=folder,
+        capture_output=True,
+        text=True,
+    )
+    yield (made.returncode, made.stderr) == (0, "") and made.stdout.endswith("wrote ad/overflow.h ad/a.c\n")
+    words = ["f", "ad/overflow.h", "ad/a.c", "-o", "d"]
+    ended = subprocess.run([f"{prefix}/bin/fshell-rte", *words], cwd=folder, capture_output=True, text=True)
+    yield ended.returncode == 1 and "\na.c:5:19: fails: overflow a[x & 3] - x: " in "\n" + ended.stdout
+
+
+def nothing_is_left_half_copied(folder: str) -> Iterator[bool]:
+    """Where a file may have 1,000 bytes at most, as on a full disk."""
+    ended = run(folder, ["install", "to"], preexec_fn=lambda: resource.setrlimit(resource.RLIMIT_FSIZE, (1000, 1000)))
+    yield ended.returncode == 2 and ended.stderr == "install: to/lib/fshell/program: File too large\n"
+    yield [name for _, _, names in os.walk(os.path.join(folder, "to")) for name in names] == []
+
+
+def completed(folder: str, words: str) -> list[str]:
+    """What bash completes behind these words; the last one is begun."""
+    at = len(words.split()) - 1
+    command = f". to/share/bash-completion/completions/fshell; COMP_WORDS=({words}); COMP_CWORD={at}; _fshell; echo ${{COMPREPLY[@]}}"
+    return subprocess.run(["bash", "-c", command], cwd=folder, capture_output=True, text=True).stdout.split()
+
+
+def options_of(text: str) -> set[str]:
+    """The options that a help names: those at the begin of a line, with their other names."""
+    return {
+        name
+        for line in text.splitlines()
+        if line.startswith("  -")
+        for name in re.findall(r"(?:^|, )(--?[A-Za-z][a-z-]*)", line.strip())
+    }
+
+
+def helps(folder: str) -> Iterator[tuple[str, str]]:
+    """The help of each tool, and of each command of bin/project, behind its words."""
+    for name in TOOLS:
+        tool = name.removeprefix("fshell-")
+        yield name, run(folder, [tool, "--help"]).stdout
+        for command in ("init", "run", "report", "check") if tool == "project" else ():
+            yield f"{name} {command}", run(folder, [tool, command, "--help"]).stdout
+
+
+def completion_knows_each_option(folder: str) -> Iterator[bool]:
+    """Of each tool it offers what its help names, and no more."""
+    run(folder, ["install", "to"])
+    for name, text in helps(folder):
+        offered = {one for one in completed(folder, f"{name} -") if one.startswith("-")}
+        yield len(offered) >= 2 and offered == options_of(text)
+
+
+def completion_knows_words(folder: str) -> Iterator[bool]:
+    run(folder, ["install", "to"])
+    put(folder, {"in/a.c": "", "b.txt": ""})
+    yield completed(folder, "fshell me") == ["measure"]
+    yield completed(folder, "fshell measure --e") == ["--ends"]
+    yield completed(folder, "fshell check --") == ["--turns", "--frames", "--answers", "--ends"]
+    yield completed(folder, "fshell generate --ends ''") == ["returned", "trapped", "any"]
+    yield completed(folder, "fshell generate --turns ''") == []
+    yield completed(folder, "fshell --") == ["--help", "--explain"]
+    yield completed(folder, "fshell measure f q b") == ["b.txt"]
+    yield completed(folder, "fshell-campaign --ssh") == ["--sshloginfile"]
+    yield sorted(completed(folder, "fshell-campaign -o ''")) == ["in", "to"]
+    yield completed(folder, "fshell-inputs --to n") == ["named"]
+    yield completed(folder, "fshell-project r") == ["run", "report"]
+    yield completed(folder, "fshell-project run --s") == ["--since", "--sshloginfile"]
+    # (the other names are links to the one script)
+    places = os.path.join(folder, "to/share/bash-completion/completions")
+    yield sorted(os.listdir(places)) == sorted(["fshell", *TOOLS]) and all(
+        os.path.isfile(os.path.join(places, name)) for name in TOOLS
+    )
+
+
+def documents_and_pages_name_each_option(folder: str) -> Iterator[bool]:
+    """docs/TOOLS.md, and each manual page with the statuses that the help tells."""
+    run(folder, ["install", "to"])
+    with open(os.path.join(environment.ROOT, "docs", "TOOLS.md"), encoding="utf-8") as file:
+        sections = dict(re.findall(r"^## bin/(\w+)\n(.*?)(?=^## |\Z)", file.read(), re.DOTALL | re.MULTILINE))
+    for name, text in helps(folder):
+        tool = name.removeprefix("fshell-").split()[0]
+        long = {one for one in options_of(text) if one.startswith("--")} - {"--help"}
+        yield not [one for one in long if f"{one}" not in re.findall(r"--[a-z-]+", sections[tool])]
+        with open(os.path.join(folder, "to/share/man/man1", f"fshell-{tool}.1"), encoding="utf-8") as file:
+            page = file.read().replace("\\-", "-")
+        yield not [one for one in options_of(text) if f"\\fB{one}" not in page and f", {one}\\fR" not in page]
+        if " " not in name:
+            told = text[text.index("exit status:") :]
+            statuses = re.findall(r"^  ([0-9])  (.+)$", told, re.MULTILINE)
+            yield [number for number, _ in statuses][:: len(statuses) - 1][0] == "0" and "2" in dict(statuses)
+            shown = page[page.index(".SH EXIT STATUS") : page.index(".SH ENVIRONMENT")]
+            yield re.findall(r"^\.TP\n([0-9])$", shown, re.MULTILINE) == [number for number, _ in statuses]
+
+
+def packed(folder: str, *words: str) -> tuple[subprocess.CompletedProcess[str], str]:
+    """How bin/package ends, and the path of what it wrote."""
+    ended = run(folder, ["package", *words])
+    return ended, os.path.join(folder, ended.stdout.strip())
+
+
+def a_package_is_one_file_that_works(folder: str) -> Iterator[bool]:
+    """Installed by dpkg under a scratch root, run from there, and removed whole."""
+    ended, path = packed(folder, "--version", "1.2")
+    yield (ended.returncode, ended.stdout) == (0, "./fshell_1.2_amd64.deb\n")
+    with open(path, "rb") as file:
+        first = file.read()
+    _, path = packed(folder, "--version", "1.2")
+    with open(path, "rb") as file:
+        yield file.read() == first
+    root = os.path.join(folder, "root")
+    put(root, {"var/lib/dpkg/status": "", "var/lib/dpkg/available": ""})
+    forced = "--force-not-root --force-depends --force-script-chrootless --no-triggers"
+    dpkg = ["dpkg", f"--root={root}", *forced.split()]
+    yield subprocess.run([*dpkg, "-i", path], capture_output=True, text=True).returncode == 0
+    own = {name: value for name, value in os.environ.items() if name != "FSHELL"}
+
+    def installed(name: str, *words: str) -> subprocess.CompletedProcess[str]:
+        return subprocess.run(
+            [os.path.join(root, "usr/bin", name), *words],
+            cwd=os.path.join(root, "module"),
+            env=own,
+            capture_output=True,
+            text=True,
+        )
+
+    shutil.copytree(
+        os.path.join(environment.ROOT, "examples", "module"),
+        os.path.join(root, "module"),
+        ignore=shutil.ignore_patterns("fshell.out"),
+    )
+    yield installed(
+        "fshell", "--explain", "66"
+    ).stdout == "66 PredicateNowhere: a predicate is typable in no node's scope\n"
+    yield all(installed(name, "--help").returncode == 0 for name in TOOLS)
+    yield installed("fshell-project", "run").stdout.endswith("requirement R-5: holds\nthe gate passes\n")
+    # (documents and manual pages may be left out of a machine: nothing else needs them)
+    shutil.rmtree(os.path.join(root, "usr/share"))
+    yield installed("fshell", "--help").stdout.startswith("Commands:\n  fshell measure ")
+    yield subprocess.run([*dpkg, "-r", "fshell"], capture_output=True, text=True).returncode == 0
+    yield [name for at, _, names in os.walk(os.path.join(root, "usr")) for name in names] == []
+
+
+def a_package_has_no_errors(folder: str) -> Iterator[bool]:
+    """By Debian's own checker; what is overridden is told with its reason in the documents."""
+    _, path = packed(folder, "--version", "1.2")
+    words = ["lintian", *(["--allow-root"] if os.getuid() == 0 else [])]
+    told = subprocess.run([*words, "--fail-on", "error,warning", path], capture_output=True, text=True)
+    yield (told.returncode, told.stdout) == (0, "")
+    lines = subprocess.run([*words, "--show-overrides", path], capture_output=True, text=True).stdout.splitlines()
+    yield [line for line in lines if line[:2] != "N:"] == [
+        "O: fshell: unstripped-binary-or-object [usr/lib/fshell/program]"
+    ]
+
+
+def a_package_is_refused(folder: str) -> Iterator[bool]:
+    for words, line in (
+        (["--version", "v1"], "v1 is no version: a digit first, and then letters, digits, points, + and ~"),
+        (["--maintainer", "me"], "me isn't of the form NAME <MAIL>"),
+    ):
+        ended = run(folder, ["package", *words])
+        yield ended.returncode == 2 and ended.stderr.endswith(f"package: error: {line}\n")
+    ended = run(folder, ["package", "-o", "nowhere"])
+    yield (ended.returncode, ended.stderr) == (2, "package: nowhere: there is no such folder\n") and os.listdir(
+        folder
+    ) == []
+
+
+def needs_are_told(folder: str) -> Iterator[bool]:
+    ended = run(
+        folder,
+        ["install", "--check"],
+        env={
+            **os.environ,
+            "PATH": os.path.join(folder, "nothing")
+            + ":"
+            + os.path.dirname(
+                subprocess.run(["sh", "-c", "command -v python3"], capture_output=True, text=True).stdout.strip()
+            ),
+        },
+    )
+    lines = ended.stdout.splitlines()
+    yield len(lines) == 7 and lines[0] == "there    Python 3.11, for all tools"
+    yield all(line.startswith(("there    ", "missing  ")) for line in lines)
+    yield ended.returncode == any(line.startswith("missing") for line in lines)
+    yield all("(Debian: apt-get install " in line for line in lines if line.startswith("missing"))
+
+
+def manual_pages_are_shown(folder: str) -> Iterator[bool]:
+    run(folder, ["install", "to"])
+    pages = os.path.join(folder, "to", "share", "man", "man1")
+    yield sorted(os.listdir(pages)) == sorted(f"{name}.1" for name in ["fshell", *COMMANDS, *TOOLS])
+    for name in os.listdir(pages):
+        words = ["man", "--warnings", "-l", os.path.join(pages, name)]
+        shown = subprocess.run(
+            words, capture_output=True, text=True, env={**os.environ, "MANWIDTH": "120", "LC_ALL": "C.UTF-8"}
+        )
+        yield (shown.returncode, shown.stderr) == (
+            0,
+            "",
+        ) and "DESCRIPTION" in shown.stdout or name == "fshell.1" and "EXIT STATUS" in shown.stdout
+
+
+MODULE = (
+    "dpkg-deb",
+    "gcc",
+    "pycparser",
+    "jinja2",
+    "python3-pycparser",
+    "python3-jinja2",
+)  # (a package runs by Debian's Python)
+TRIED = [((), installed_tools_work), (("pycparser", "gcc", "graph"), installed_adapt_has_its_models), ((), nothing_is_left_half_copied),
+         (("bash",), completion_knows_words), (("bash",), completion_knows_each_option), ((), documents_and_pages_name_each_option),
+         ((), needs_are_told), (("man",), manual_pages_are_shown), (MODULE, a_package_is_one_file_that_works),
+         (("dpkg-deb", "lintian"), a_package_has_no_errors), (("dpkg-deb",), a_package_is_refused)]  # fmt: skip
