@@ -1,4 +1,4 @@
-/* A gauge with eight operations of each verdict of bin/rte; what stands behind a line is the verdict of its operations. */
+/* A gauge with eight operations of each verdict of fshell rte; what stands behind a line is the verdict of its operations. */
 #define WIDTH 32
 
 static const int curve[4] = {3, 9, 27, 81};

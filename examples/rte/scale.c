@@ -1,5 +1,5 @@
 /* Four faults are planted in this module: a zero divisor, an index one too far, a shift by the width, and a signed overflow.
-   bin/adapt --check-overflow brings it into the profile, and bin/rte finds these four; all its other operations never fail. */
+   fshell adapt --check-overflow brings it into the profile, and fshell rte finds these four; all its other operations never fail. */
 #include <stdint.h>
 
 #define CHANNELS 4

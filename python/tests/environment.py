@@ -10,6 +10,7 @@ HERE = os.path.dirname(os.path.abspath(__file__))
 ROOT = os.path.normpath(os.path.join(HERE, "..", ".."))
 TOOLS = os.path.join(ROOT, "python")  # which Python runs as a program: a tool's name and words
 LAUNCHER = os.path.join(ROOT, "bin", "fshell")
+os.environ["FSHELL_HINTS"] = "0"  # the program's line alone is compared; test_hints.py has the lines behind it
 SECONDS = 300  # a run that takes longer has no end; it takes seconds at most, but a machine may be busy
 COUNT_ITEMS = os.path.join(ROOT, "crates", "count_items", "out", "count_items")
 

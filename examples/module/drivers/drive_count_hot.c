@@ -1,4 +1,4 @@
-/* Written by bin/driver for count_hot of alarm.c. What isn't an integer comes from input functions, which are named after it.
+/* Written by fshell driver for count_hot of alarm.c. What isn't an integer comes from input functions, which are named after it.
    Edit it as you like; fshell.toml names it under drivers. */
 #include "../boiler.h"
 

@@ -1,4 +1,4 @@
-/* Written by bin/driver: stubs of functions that no source defines. Each gives what an input function says, and notes
+/* Written by fshell driver: stubs of functions that no source defines. Each gives what an input function says, and notes
    its arguments. Edit it as you like; fshell.toml names it under drivers. */
 #include "../boiler.h"
 

@@ -1,4 +1,4 @@
-"""bin/adapt: C as users write it, brought into the profile."""
+"""fshell adapt: C as users write it, brought into the profile."""
 
 import argparse
 import os
@@ -28,11 +28,11 @@ def count(word: str) -> int:
 
 
 def parser_of_words() -> argument_parsers.Parser:
-    """The options and the statuses of bin/adapt; argparse ends with status 2 where the words are wrong."""
+    """The options and the statuses of fshell adapt; argparse ends with status 2 where the words are wrong."""
     about = f"Writes C sources again in the profile of C that FShell reads, every statement on its line. {FIRST}."
     done = "the sources are written, and with --compare all runs agree"
     refused = "sources are refused, with a line for each cause"
-    parser = argument_parsers.parser("bin/adapt", about, done, "runs of --compare differ", status_3=refused)
+    parser = argument_parsers.parser("adapt", about, done, "runs of --compare differ", status_3=refused)
     parser.add_argument("sources", nargs="+", metavar="SOURCE", help="C sources, which together are one program")
     parser.add_argument("-I", action="append", default=[], metavar="DIR", dest="folders", help="a folder with headers")
     parser.add_argument("-D", action="append", default=[], metavar="NAME=VALUE", dest="macros", help="a macro")
@@ -67,7 +67,7 @@ def parser_of_words() -> argument_parsers.Parser:
         "--harness",
         nargs=2,
         metavar=("ENTRY", "INPUTS"),
-        help="write DIR/tests.c, which runs the original's ENTRY on the inputs (bin/harness)",
+        help="write DIR/tests.c, which runs the original's ENTRY on the inputs (fshell harness)",
     )
     parser.add_argument(
         "--compare",

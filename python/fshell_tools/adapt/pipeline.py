@@ -1,4 +1,4 @@
-"""The way of C sources through bin/adapt, stage by stage. Each stage is a folder here (STAGES), and knows those before it alone.
+"""The way of C sources through fshell adapt, stage by stage. Each stage is a folder here (STAGES), and knows those before it alone.
 
     read        the text of each source, by the machine's preprocessor and compiler, as a tree of our own (tree.py)
     expand      copies of functions, models of the library, switches and jumps: trees as they were, written otherwise

@@ -1,4 +1,4 @@
-"""bin/campaign: has all goals of a query decided, in a folder, on as many processors and machines as there are.
+"""fshell campaign: has all goals of a query decided, in a folder, on as many processors and machines as there are.
 
 The given inputs are measured first, and where they miss goals one `generate` over all goals makes inputs for the easy ones. Each
 goal that is left is decided by `prove`, under GNU parallel, and its certificate checked by `check` in a process of its own; after
@@ -163,7 +163,7 @@ def numbers(text: str) -> list[int]:
 
 
 def parser_of_words() -> argument_parsers.Parser:
-    """What reads the words of bin/campaign; a wrong word ends the tool with status 2."""
+    """What reads the words of fshell campaign; a wrong word ends the tool with status 2."""
     done = "each goal is decided, and the gate of --at-least passes"
     parser = argument_parsers.parser("campaign", __doc__, done, "a goal is undecided, or the gate fails")
     parser.add_argument("words", nargs="*", metavar="ENTRY QUERY SOURCE..", help="none where a campaign goes on")
@@ -187,7 +187,7 @@ def parser_of_words() -> argument_parsers.Parser:
 
 
 def words() -> argparse.Namespace:
-    """What the words of bin/campaign say; words that can't go together end it with status 2 and a line."""
+    """What the words of fshell campaign say; words that can't go together end it with status 2 and a line."""
     parser = parser_of_words()
     given = parser.parse_intermixed_args()
     if 0 < len(given.words) < 3:

@@ -9,7 +9,7 @@ stands there:
   found/N                prove's line for goal N, with an input
   certificates/N.cert    prove's certificate for goal N, and N.sum, its sum, once `check` accepted it
   open/N                 the budget that goal N was tried with, and what prove said
-  mcdc.json              the report of bin/mcdc that was given
+  mcdc.json              the report of fshell mcdc that was given
   machine/               the lock, the number of jobs and the log of GNU parallel: what differs from machine to machine
 """
 
@@ -205,7 +205,7 @@ class Folder:
         return ""
 
     def take_conditions(self, asked: Asked, path: str) -> None:
-        """Keeps a report of bin/mcdc; one of another entry or of other sources is a failure."""
+        """Keeps a report of fshell mcdc; one of another entry or of other sources is a failure."""
         found = mcdc_report_reader.of_file(path)
         if not found:
             raise Failure(f"{path}: it is no report of mcdc as JSON")
@@ -214,7 +214,7 @@ class Folder:
         program.write_whole(self.at("mcdc.json"), program.read(path).decode())
 
     def conditions(self, asked: Asked) -> Conditions | None:
-        """The report of bin/mcdc that was kept, where it is of the sources as they are."""
+        """The report of fshell mcdc that was kept, where it is of the sources as they are."""
         path = self.at("mcdc.json")
         found = mcdc_report_reader.of_file(path) if os.path.exists(path) else None
         return found if found and found.sums == asked.sums else None

@@ -1,4 +1,4 @@
-"""bin/drat: writes the formula of a certificate in DIMACS form and its derivation in DRAT form, for checkers of others.
+"""fshell drat: writes the formula of a certificate in DIMACS form and its derivation in DRAT form, for checkers of others.
 
 NAME.cnf and NAME.drat are written. Each line of a derivation becomes a clause that is added; the numbers of antecedents and the
 pivots are left out, which a checker of DRAT (Wetzler, Heule, Hunt 2014) finds by unit propagation. Whether the derivation is right
@@ -21,7 +21,7 @@ def forms(text: str) -> tuple[str, str]:
 
 
 def parser_of_words() -> argument_parsers.Parser:
-    """What reads the words of bin/drat; a wrong word ends the tool with status 2."""
+    """What reads the words of fshell drat; a wrong word ends the tool with status 2."""
     parser = argument_parsers.parser("drat", __doc__, "NAME.cnf and NAME.drat are written")
     parser.add_argument("certificate", metavar="CERTIFICATE", help="what prove or prove-bounds wrote")
     parser.add_argument("name", metavar="NAME", help="the path of what is written, without its ending")

@@ -20,7 +20,7 @@ def parser(name: str, about: str | None, done: str, is_open: str = "", **more: s
     statuses = {0: done} | ({1: is_open} if is_open else {}) | {2: FAILED}
     statuses |= {int(name.removeprefix("status_")): text for name, text in more.items()}
     epilog = "exit status:\n" + "".join(f"  {number}  {text}\n" for number, text in sorted(statuses.items()))
-    made = Parser(prog=name, description=about, epilog=epilog, formatter_class=argparse.RawTextHelpFormatter)
+    made = Parser(prog=f"fshell {name}".rstrip(), description=about, epilog=epilog, formatter_class=argparse.RawTextHelpFormatter)
     made.statuses = dict(sorted(statuses.items()))
     return made
 
@@ -29,7 +29,7 @@ def takes_entry(of_tool: argparse.ArgumentParser, with_inputs: bool = False) -> 
     """Has a tool take ENTRY, perhaps INPUTS, and SOURCE.., as most of the program's commands do."""
     of_tool.add_argument("entry", metavar="ENTRY", help="the function in which runs begin")
     if with_inputs:
-        told = "a file of inputs, in any form that bin/inputs reads"
+        told = "a file of inputs, in any form that fshell inputs reads"
         of_tool.add_argument("inputs", metavar="INPUTS", help=told)
     of_tool.add_argument("sources", nargs="+", metavar="SOURCE", help="the sources, in their order")
 

@@ -1,4 +1,4 @@
-"""What `bin/adapt --compare` found of the sources of a campaign: the report `compare.json` beside what it wrote (docs/FORMATS.md)."""
+"""What `fshell adapt --compare` found of the sources of a campaign: the report `compare.json` beside what it wrote (docs/FORMATS.md)."""
 
 import json
 import os
@@ -11,7 +11,7 @@ from fshell_tools.core.program import Failure
 
 NAME = "compare.json"
 FORM = "fshell compare 1"
-NONE = "compared with the original on no inputs (bin/adapt --compare)"
+NONE = "compared with the original on no inputs (fshell adapt --compare)"
 
 
 @dataclass(frozen=True)
@@ -64,26 +64,26 @@ def of_folder(folder: str, place: str) -> Compared | str:
     try:
         value = _read(path)
         if not _is_of(value, os.path.dirname(path)):
-            return f"{shown} is of other files; run bin/adapt --compare again"
+            return f"{shown} is of other files; run fshell adapt --compare again"
         counts = value["inputs"]
         builds = [f"{one['compiler']} {one['level']}" for one in value["builds"]]
         apart = sum(value["without_meaning"].values())
         return Compared(shown, counts["random"], counts["boundary"], len(value["differences"]), apart, builds)
     except (ValueError, KeyError, TypeError, AttributeError, RecursionError):
-        return f"{shown} is no report of bin/adapt --compare"
+        return f"{shown} is no report of fshell adapt --compare"
 
 
 def of_sources(sources: Sequence[str], place: str) -> dict[str, Compared | str]:
-    """What is known of each folder whose sources bin/adapt wrote, in their order."""
+    """What is known of each folder whose sources fshell adapt wrote, in their order."""
     written = [one for one in sources if source_map.of_source(one, place)]
     return {folder: of_folder(folder, place) for folder in dict.fromkeys(os.path.dirname(one) for one in written)}
 
 
 def lines(sources: Sequence[str], place: str) -> list[str]:
-    """What a campaign tells of its sources, a line a folder; nothing where bin/adapt wrote none of them."""
+    """What a campaign tells of its sources, a line a folder; nothing where fshell adapt wrote none of them."""
     found = of_sources(sources, place)
     return [
-        f"{folder or '.'} was written by bin/adapt, {one if isinstance(one, str) else one.line}"
+        f"{folder or '.'} was written by fshell adapt, {one if isinstance(one, str) else one.line}"
         for folder, one in found.items()
     ]
 

@@ -1,4 +1,4 @@
-"""bin/inputs: makes a file of inputs from reports, traces and files of inputs.
+"""fshell inputs: makes a file of inputs from reports, traces and files of inputs.
 
 Each FILE is a report of `generate` as text or JSON, lines of `prove` or `least` that name an input, a trace file, or a file of
 inputs in either form. All their inputs are written as one file that `measure` reads, in order, each once. With `--to traces`
@@ -174,7 +174,7 @@ def named_text(inputs: list[Input], entry: str, sources: list[str]) -> str:
 
 
 def parser_of_words() -> argument_parsers.Parser:
-    """What reads the words of bin/inputs; a wrong word ends the tool with status 2."""
+    """What reads the words of fshell inputs; a wrong word ends the tool with status 2."""
     parser = argument_parsers.parser("inputs", __doc__, "the inputs are written")
     parser.add_argument("files", nargs="+", metavar="FILE", help="a report, a trace file, or a file of inputs")
     parser.add_argument("-o", metavar="OUT", dest="out", help="the file that is written; else standard output")
@@ -187,7 +187,7 @@ def parser_of_words() -> argument_parsers.Parser:
 
 
 def words() -> argparse.Namespace:
-    """What the words of bin/inputs say; a form that needs an entry and hasn't one ends it with status 2 and a line."""
+    """What the words of fshell inputs say; a form that needs an entry and hasn't one ends it with status 2 and a line."""
     parser = parser_of_words()
     given = parser.parse_intermixed_args()
     if given.to in ("traces", "named") and not (given.entry and given.source):

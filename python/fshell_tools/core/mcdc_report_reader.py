@@ -1,4 +1,4 @@
-"""Reads the JSON report of bin/mcdc: its conditions as goals, for the page and the campaign."""
+"""Reads the JSON report of fshell mcdc: its conditions as goals, for the page and the campaign."""
 
 import json
 from dataclasses import dataclass
@@ -12,7 +12,7 @@ from fshell_tools.core.verdicts import Tally, Verdict
 
 @dataclass(frozen=True)
 class Conditions:
-    """A report of bin/mcdc: each condition of a decision is a goal, whose text is the letter of its guard of truth."""
+    """A report of fshell mcdc: each condition of a decision is a goal, whose text is the letter of its guard of truth."""
 
     entry: str
     sources: tuple[str, ...]

@@ -1,4 +1,4 @@
-"""A source as its user wrote it: where each place of what bin/adapt wrote comes from, and the texts there (source_map.py)."""
+"""A source as its user wrote it: where each place of what fshell adapt wrote comes from, and the texts there (source_map.py)."""
 
 import bisect
 import functools

@@ -1,7 +1,8 @@
 """Runs FShell, and what all tools share.
 
-The program is that of the environment's FSHELL, or else the one that bin/program names, which is asked once a run. Everything
-that a tool can't go on with is a `Failure`: one line, and the status 2.
+The program is that of the environment's FSHELL. Without it, in a clone or below a prefix, it is the one that bin/program names,
+which is called once a run; in an installed package it is the package's own. Everything that a tool can't go on with is a
+`Failure`: one line, and the status 2.
 """
 
 import argparse
@@ -60,8 +61,12 @@ def program() -> str:
     given = os.environ.get("FSHELL", "")
     if given:
         return os.path.abspath(given) if "/" in given else given
-    found = subprocess.run([os.path.join(ROOT, "bin", "program")], stdin=subprocess.DEVNULL, capture_output=True, text=True,
-                           check=False)  # fmt: skip
+    finder, own = os.path.join(ROOT, "bin", "program"), os.path.join(PACKAGE, "released", "fshell")
+    if not os.path.isfile(finder) and os.path.isfile(own):
+        return own
+    if not os.path.isfile(finder):
+        raise Failure("there is no program: set FSHELL to its path, or install the tools from a clone with its release")
+    found = subprocess.run([finder], stdin=subprocess.DEVNULL, capture_output=True, text=True, check=False)
     if found.returncode:
         raise Failure("there is no program: " + (found.stderr.strip().splitlines() or [""])[-1])
     return found.stdout.removesuffix("\n")

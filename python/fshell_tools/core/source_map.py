@@ -1,6 +1,6 @@
 """The map from sources that a tool wrote to the user's own: where each place comes from, and what names stand for.
 
-`fshell.map` stands beside the sources that bin/adapt wrote (docs/FORMATS.md, Maps). All tools read it by `of_source`: a source
+`fshell.map` stands beside the sources that fshell adapt wrote (docs/FORMATS.md, Maps). All tools read it by `of_source`: a source
 that it names is shown as the user wrote it, and one beside which there is no map as it stands.
 """
 
@@ -42,7 +42,7 @@ def sum_of(data: bytes) -> str:
 
 
 def _wrong(path: str, why: str) -> Failure:
-    return Failure(f"{path}: {why}; run bin/adapt again, or take the map away")
+    return Failure(f"{path}: {why}; run fshell adapt again, or take the map away")
 
 
 def _spots(value: object, width: int) -> list[list[int]]:

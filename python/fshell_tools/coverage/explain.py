@@ -1,4 +1,4 @@
-"""bin/explain: says what the goals of a query or of a report are, and where runs ended that didn't return.
+"""fshell explain: says what the goals of a query or of a report are, and where runs ended that didn't return.
 
 WHAT is a query, or a file with a report of `measure`, `generate`, `goals`, `runs` or `trees` as text or JSON; `-` stands for standard
 input. SOURCE.. are the sources that the report is about. Each goal is told with what its letters are: the place as
@@ -105,7 +105,7 @@ def end_line(faces: Faces, run: Run, entry: str) -> str:
 
 
 class Explained:
-    """Writes what bin/explain says of goals and of where runs stood, line by line."""
+    """Writes what fshell explain says of goals and of where runs stood, line by line."""
 
     def __init__(
         self, faces: Faces, entry: str, report: Report, given: list[Input], runs: list[Run], limits: Limits
@@ -179,7 +179,7 @@ def is_of(goal: Goal, limits: Limits, mark: str) -> bool:
 
 
 def parser_of_words() -> argument_parsers.Parser:
-    """What reads the words of bin/explain; a wrong word ends the tool with status 2."""
+    """What reads the words of fshell explain; a wrong word ends the tool with status 2."""
     parser = argument_parsers.parser("explain", __doc__, "the goals are told")
     parser.add_argument("what", metavar="WHAT", help="a query, a file with a report, or - for standard input")
     parser.add_argument("sources", nargs="+", metavar="SOURCE", help="the sources, in their order")
@@ -198,7 +198,7 @@ def parser_of_words() -> argument_parsers.Parser:
 
 
 def words() -> argparse.Namespace:
-    """What the words of bin/explain say; words that can't go together end it with status 2 and a line."""
+    """What the words of fshell explain say; words that can't go together end it with status 2 and a line."""
     parser = parser_of_words()
     given = parser.parse_intermixed_args()
     if given.inputs and not given.entry:

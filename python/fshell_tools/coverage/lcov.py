@@ -1,4 +1,4 @@
-"""bin/lcov: writes what the counted runs of inputs took as an lcov tracefile, for genhtml and for services that read one.
+"""fshell lcov: writes what the counted runs of inputs took as an lcov tracefile, for genhtml and for services that read one.
 
 A line is one on which a step of a statement stands; it counts as often as the place of control on it that runs left most often.
 A branch is a guard, so each part of a condition has two, and each label of a `switch`: the one where it holds, then the other.
@@ -177,7 +177,7 @@ def left_out(given: argparse.Namespace, graph: Graph, runs: list[Run]) -> LeftOu
 
 
 def parser_of_words() -> argument_parsers.Parser:
-    """What reads the words of bin/lcov; a wrong word ends the tool with status 2."""
+    """What reads the words of fshell lcov; a wrong word ends the tool with status 2."""
     parser = argument_parsers.parser("lcov", __doc__, "the tracefile is written")
     argument_parsers.takes_entry(parser, with_inputs=True)
     parser.add_argument("-o", metavar="OUT", dest="out", help="the tracefile that is written; else standard output")
@@ -190,7 +190,7 @@ def parser_of_words() -> argument_parsers.Parser:
 
 
 def words() -> argparse.Namespace:
-    """What the words of bin/lcov say."""
+    """What the words of fshell lcov say."""
     return parser_of_words().parse_intermixed_args()
 
 

@@ -1,4 +1,4 @@
-"""bin/mcdc: modified condition/decision coverage, in the masking form, with short circuits.
+"""fshell mcdc: modified condition/decision coverage, in the masking form, with short circuits.
 
 For each decision it takes the paths through its conditions as goals, has inputs made for them, and says of each condition by
 which two inputs it decides on its own: its value and the outcome differ, and in both the other conditions, as far as they are
@@ -85,7 +85,7 @@ def certify(given: argparse.Namespace, all_asked: list[Asked]) -> int:
 
 
 def parser_of_words() -> argument_parsers.Parser:
-    """What reads the words of bin/mcdc; a wrong word ends the tool with status 2."""
+    """What reads the words of fshell mcdc; a wrong word ends the tool with status 2."""
     parser = argument_parsers.parser(
         "mcdc",
         __doc__,
@@ -112,7 +112,7 @@ def parser_of_words() -> argument_parsers.Parser:
 
 
 def words() -> argparse.Namespace:
-    """What the words of bin/mcdc say."""
+    """What the words of fshell mcdc say."""
     return parser_of_words().parse_intermixed_args()
 
 

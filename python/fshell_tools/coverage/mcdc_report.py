@@ -1,4 +1,4 @@
-"""What is said of the conditions of decisions, as text and as JSON: the report of bin/mcdc."""
+"""What is said of the conditions of decisions, as text and as JSON: the report of fshell mcdc."""
 
 import json
 from collections.abc import Iterator, Sequence
@@ -45,7 +45,7 @@ class Found:
 
 
 class Text:
-    """Writes the report of bin/mcdc for people, line by line."""
+    """Writes the report of fshell mcdc for people, line by line."""
 
     def __init__(self, found: Found) -> None:
         self.found, self.faces, self.given = found, found.faces, found.given

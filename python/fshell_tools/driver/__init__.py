@@ -1,1 +1,1 @@
-"""bin/driver: callers for functions that take arrays, structs, pointers or a state, and stubs for functions that aren't there."""
+"""fshell driver: callers for functions that take arrays, structs, pointers or a state, and stubs for functions that aren't there."""

@@ -1,4 +1,4 @@
-"""bin/driver: writes the caller that a function with arrays, structs, pointers or a state needs, and stubs.
+"""fshell driver: writes the caller that a function with arrays, structs, pointers or a state needs, and stubs.
 
 drive_FUNCTION calls FUNCTION. What isn't an integer becomes an object whose integers come from input functions that are named after
 them: in_frame_data_3 gives frame->data[3]. With --steps N it is called N times in a row, behind --init; --state sets variables of
@@ -19,9 +19,9 @@ from fshell_tools.driver.caller import Caller, Wanted
 from fshell_tools.driver.declarations import Read
 from fshell_tools.driver.types import Types, Unfit
 
-HEAD = """/* Written by bin/driver {what}. What isn't an integer comes from input functions, which are named after it.
+HEAD = """/* Written by fshell driver {what}. What isn't an integer comes from input functions, which are named after it.
    Edit it as you like; fshell.toml names it under drivers. */"""
-HEAD_OF_STUBS = """/* Written by bin/driver: stubs of functions that no source defines. Each gives what an input function says, and notes
+HEAD_OF_STUBS = """/* Written by fshell driver: stubs of functions that no source defines. Each gives what an input function says, and notes
    its arguments. Edit it as you like; fshell.toml names it under drivers. */"""
 
 
@@ -43,7 +43,7 @@ def length(word: str) -> tuple[str, int]:
 
 
 def parser_of_words() -> argument_parsers.Parser:
-    """What reads the words of bin/driver; a wrong word ends the tool with status 2."""
+    """What reads the words of fshell driver; a wrong word ends the tool with status 2."""
     parser = argument_parsers.parser("driver", __doc__, "the driver and the stubs are written")
     parser.add_argument(
         "function", metavar="FUNCTION", help="the function that is called; - where stubs alone are written"

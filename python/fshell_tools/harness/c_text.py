@@ -1,4 +1,4 @@
-"""The parts of the C file that bin/harness and bin/adapt --harness write: what stands before the sources, and the tests."""
+"""The parts of the C file that fshell harness and fshell adapt --harness write: what stands before the sources, and the tests."""
 
 # what gives the next answer of an input, or 0 behind the last one
 ANSWER = """static unsigned long long fshell_answer(void) {{

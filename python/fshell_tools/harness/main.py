@@ -1,4 +1,4 @@
-"""bin/harness: writes a C file that runs inputs on another compiler, and compares what the entry returns.
+"""fshell harness: writes a C file that runs inputs on another compiler, and compares what the entry returns.
 
 The file has the sources within it, so it is compiled alone, with -fwrapv (overflow wraps) and, where plain char has no sign,
 -fsigned-char. Run, it prints TAP, or JUnit's XML with --junit: for each input whether the entry returned what FShell recorded. A test whose run FShell says
@@ -79,7 +79,7 @@ def values(sources: list[Source]) -> str:
 def text_of(entry: str, given: list[Input], runs: list[Run], sources: list[Source], out: str | None) -> str:
     """The whole file."""
     words = "".join(f"{word(number)}, " for one in given for number in (*one.args, *one.answers))
-    parts = [HEAD.format(by="bin/harness", count=len(given), entry=entry)]
+    parts = [HEAD.format(by="fshell harness", count=len(given), entry=entry)]
     heads = declarations.input_heads(sources)
     for number, source in enumerate(sources):
         mine = [(name, kind) for name, (first, kind) in heads.items() if first == number]
@@ -95,7 +95,7 @@ def text_of(entry: str, given: list[Input], runs: list[Run], sources: list[Sourc
 
 
 def parser_of_words() -> argument_parsers.Parser:
-    """What reads the words of bin/harness; a wrong word ends the tool with status 2."""
+    """What reads the words of fshell harness; a wrong word ends the tool with status 2."""
     parser = argument_parsers.parser("harness", __doc__, "the file is written")
     argument_parsers.takes_entry(parser, with_inputs=True)
     parser.add_argument("-o", metavar="OUT", dest="out", help="the C file that is written; else standard output")
@@ -104,7 +104,7 @@ def parser_of_words() -> argument_parsers.Parser:
 
 
 def words() -> argparse.Namespace:
-    """What the words of bin/harness say."""
+    """What the words of fshell harness say."""
     return parser_of_words().parse_intermixed_args()
 
 

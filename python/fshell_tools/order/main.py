@@ -1,4 +1,4 @@
-"""bin/order: lists the expressions whose result can depend on the order in which their parts are evaluated.
+"""fshell order: lists the expressions whose result can depend on the order in which their parts are evaluated.
 
 C leaves that order open (6.5p3, 6.5.2.2p10), and FShell takes one. Each place is told with its class, a line each:
 
@@ -135,12 +135,12 @@ def restriction(entry: str, sources: Sequence[str], query: str | None, ends: str
     places = list(dict.fromkeys(original_sources.place_of(one.file, one.line, one.column, folder) for one in told_of))
     if not places:
         return ""
-    more = f" and at {len(places) - 1} more places, which bin/order tells" if len(places) > 1 else ""
+    more = f" and at {len(places) - 1} more places, which fshell order tells" if len(places) > 1 else ""
     return f"C leaves the order of evaluation open at {places[0]} ({told_of[0].kind}){more}"
 
 
 def parser_of_words() -> argument_parsers.Parser:
-    """What reads the words of bin/order; a wrong word ends the tool with status 2."""
+    """What reads the words of fshell order; a wrong word ends the tool with status 2."""
     parser = argument_parsers.parser(
         "order", __doc__, "nothing is told: each order of evaluation gives the same", "places are told"
     )
@@ -153,7 +153,7 @@ def parser_of_words() -> argument_parsers.Parser:
 
 
 def parsed() -> argparse.Namespace:
-    """What the words of bin/order say."""
+    """What the words of fshell order say."""
     return parser_of_words().parse_intermixed_args()
 
 

@@ -1,4 +1,4 @@
-"""bin/package: writes a Debian package of the program and the tools, as bin/install puts them under /usr.
+"""fshell package: writes a Debian package of the program and the tools, as fshell install puts them under /usr.
 
 A pipeline installs the one file: `apt-get install ./fshell_VERSION_ARCH.deb`. Two packages of one commit are the same, byte for byte.
 """
@@ -34,7 +34,7 @@ Description: query-driven test generator and coverage measurer for C
 """
 COPYRIGHT = """Format: https://www.debian.org/doc/packaging-manuals/copyright-format/1.0/
 Upstream-Name: FShell
-Source: the repository in which bin/package made this package
+Source: the repository in which fshell package made this package
 
 Files: *
 Copyright: {year} the authors of FShell
@@ -46,7 +46,7 @@ fshell: unstripped-binary-or-object [usr/lib/fshell/program]
 """
 CHANGELOG = """fshell ({version}) unstable; urgency=medium
 
-  * Made by bin/package of the repository; its CHANGELOG.md says what changed.
+  * Made by fshell package of the repository; its CHANGELOG.md says what changed.
 
  -- {maintainer}  {date}
 """
@@ -92,7 +92,7 @@ def zipped(path: str) -> None:
 
 
 def fitted(top: str) -> None:
-    """Fits what bin/install puts there to Debian's rules: packed manual pages, Python by its path, modes."""
+    """Fits what fshell install puts there to Debian's rules: packed manual pages, Python by its path, modes."""
     man = os.path.join(top, "usr/share/man/man1")
     for name in os.listdir(man):
         zipped(os.path.join(man, name))
@@ -100,7 +100,7 @@ def fitted(top: str) -> None:
     for name in os.listdir(scripts):
         text = program.read(os.path.join(scripts, name)).decode()
         install.put(
-            text.replace("exec python3 ", "exec /usr/bin/python3 ", 1), os.path.join(scripts, name), True
+            re.sub(r"\bpython3 (?=\")", "/usr/bin/python3 ", text), os.path.join(scripts, name), True
         )
     for at, folders, names in os.walk(top):
         for one in folders:
@@ -176,7 +176,7 @@ def package(folder: str, version: str, maintainer: str) -> str:
 
 
 def parser_of_words() -> argument_parsers.Parser:
-    """What reads the words of bin/package; a wrong word ends the tool with status 2."""
+    """What reads the words of fshell package; a wrong word ends the tool with status 2."""
     parser = argument_parsers.parser("package", __doc__, "the package is written")
     parser.add_argument("-o", metavar="DIR", dest="folder", default=".", help="the folder of the package (.)")
     parser.add_argument(

@@ -1,7 +1,6 @@
-"""bin/install: puts the program, the tools, their manual pages and completion for bash under a folder.
+"""fshell install: puts the program, the tools, their manual pages and completion for bash, zsh and fish under a folder.
 
-PREFIX/bin gets `fshell`, and each tool as `fshell-NAME`; they need PREFIX/lib/fshell. --check says which of the things that
-tools need are there.
+PREFIX/bin gets `fshell`, which needs PREFIX/lib/fshell. --check says which of the things that tools need are there.
 """
 
 import importlib.util
@@ -107,7 +106,8 @@ def built() -> str:
 def folders(prefix: str) -> dict[str, str]:
     """The folders that are made. Raises Failure where one can't be made."""
     names = {"bin": "bin", "lib": "lib/fshell", "scripts": "lib/fshell/bin", "tools": "lib/fshell/python/fshell_tools", "docs": "lib/fshell/docs", "man": "share/man/man1",
-             "completion": "share/bash-completion/completions", "doc": "share/doc/fshell"}  # fmt: skip
+             "bash": "share/bash-completion/completions", "zsh": "share/zsh/site-functions", "fish": "share/fish/vendor_completions.d",
+             "doc": "share/doc/fshell"}  # fmt: skip
     found = {name: os.path.join(prefix, path) for name, path in names.items()}
     for path in found.values():
         try:
@@ -131,10 +131,10 @@ def install(prefix: str) -> int:
         made = os.path.join(at["lib"], name)
         os.makedirs(os.path.dirname(made), exist_ok=True)
         copy(os.path.join(ROOT, name), made)
-    for name in ("fshell", *cli.TOOLS):
-        copy(os.path.join(ROOT, "bin", name), os.path.join(at["scripts"], name))
-        link(f"../lib/fshell/bin/{name}", os.path.join(at["bin"], name if name == "fshell" else f"fshell-{name}"))
-    copy(os.path.join(program.PYTHON, "__main__.py"), os.path.join(at["lib"], "python", "__main__.py"))
+    copy(os.path.join(ROOT, "bin", "fshell"), os.path.join(at["scripts"], "fshell"))
+    link("../lib/fshell/bin/fshell", os.path.join(at["bin"], "fshell"))
+    for name in ("__main__.py", "pyproject.toml"):
+        copy(os.path.join(program.PYTHON, name), os.path.join(at["lib"], "python", name))
     copy_tree(program.PACKAGE, at["tools"], (".py", ".html", ".css", ".c", ".h"))
     copy_tree(os.path.join(ROOT, "docs"), at["docs"], (".md",))
     # (what is under share may be left out of a machine, and the program's help is made of the documents)
@@ -142,23 +142,28 @@ def install(prefix: str) -> int:
         link(f"../../../lib/fshell/docs/{name}", os.path.join(at["doc"], name))
     for name, page in pages.items():
         put(page, os.path.join(at["man"], f"{name}.1"))
-    put(completion.completion(commands), os.path.join(at["completion"], "fshell"))
-    for name in cli.TOOLS:
-        link("fshell", os.path.join(at["completion"], f"fshell-{name}"))
+    for shell, name in (("bash", "fshell"), ("zsh", "_fshell"), ("fish", "fshell.fish")):
+        put(completion.SHELLS[shell](commands), os.path.join(at[shell], name))
     return len(pages)
 
 
-def main() -> int:
-    """Installs into a prefix, or says what is there, and answers the exit status, as the module says."""
+def parser_of_words() -> argument_parsers.Parser:
+    """What reads the words of the command."""
     done, missing = "all is put there, or is there", "something is missing that tools need (--check)"
     parser = argument_parsers.parser("install", __doc__, done, missing)
     parser.add_argument("prefix", nargs="?", metavar="PREFIX", help="such as /usr/local or ~/.local")
     parser.add_argument("--check", action="store_true", help="says which of the things that tools need are there")
+    return parser
+
+
+def main() -> int:
+    """Installs into a prefix, or says what is there, and answers the exit status, as the module says."""
+    parser = parser_of_words()
     given = parser.parse_args()
     if given.check:
         return check()
     if not given.prefix:
         parser.error("PREFIX or --check")
     count = install(given.prefix)
-    print(f"{given.prefix}: the program, {len(cli.TOOLS)} tools, {count} manual pages, and completion for bash")
+    print(f"{given.prefix}: the program, {len(cli.TOOLS)} tools, {count} manual pages, and completion for bash, zsh and fish")
     return program.DONE

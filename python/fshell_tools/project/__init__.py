@@ -1,1 +1,1 @@
-"""bin/project: a module of many functions, tested, reported and judged as its fshell.toml says."""
+"""fshell run: a module of many functions, tested, reported and judged as its fshell.toml says."""

@@ -47,10 +47,10 @@ class File:
 
 def read(results: Results) -> dict[str, File]:
     """The counts of the module's own files over all tests of all entries, by the files' names from the settings'
-    folder, as bin/lcov tells them. Raises Failure where that fails."""
+    folder, as fshell lcov tells them. Raises Failure where that fails."""
     found: dict[str, File] = {}
     unit = results.context.unit
-    # (the tracefile names the original of a source that bin/adapt wrote)
+    # (the tracefile names the original of a source that fshell adapt wrote)
     own = {os.path.realpath(unit.at(name)): file for name, file in results.own_files.items()}
     own |= {os.path.realpath(results.context.settings.at(file)): file for file in results.own_files.values()}
     for entry in results.entries:

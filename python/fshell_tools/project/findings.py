@@ -104,7 +104,7 @@ class Finder:
                 yield Finding("open-requirement", RULES["open-requirement"][0], file, one.line, 1, text)
 
     def orders(self) -> Iterator[Finding]:
-        """Where C leaves an order of evaluation open that matters (C11 6.5, paragraphs 2 and 3), as bin/order tells of
+        """Where C leaves an order of evaluation open that matters (C11 6.5, paragraphs 2 and 3), as fshell order tells of
         each entry; an entry of which it can't is left out."""
         unit = self.results.context.unit
         for entry in self.results.entries:

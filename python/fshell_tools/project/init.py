@@ -15,7 +15,7 @@ from fshell_tools.project.settings import Gate, Module, Settings
 from fshell_tools.project.unit import Unit
 
 HEAD = """# What is asked of this module; docs/MODULE.md has all keys. Names of files are read from this file's folder.
-# bin/project run does what isn't done yet, writes the report, and judges the gate.
+# fshell run does what isn't done yet, writes the report, and judges the gate.
 """
 
 
@@ -84,7 +84,7 @@ def _entry(draft: Draft, name: str, queries: Sequence[str]) -> Iterator[str]:
     if kept and name not in draft.of_drivers:
         shown = ", ".join(kept[:4]) + (" .." if len(kept) > 4 else "")
         yield f"# its runs begin with the first values of {shown}:"
-        yield f"# bin/driver {name} {draft.own(name)} --steps 4 -o drive_{name}.c writes a caller that takes several steps"
+        yield f"# fshell driver {name} {draft.own(name)} --steps 4 -o drive_{name}.c writes a caller that takes several steps"
 
 
 def text_of(draft: Draft, module: Module, queries: Sequence[str]) -> str:
@@ -102,7 +102,7 @@ def text_of(draft: Draft, module: Module, queries: Sequence[str]) -> str:
         elif arrays:
             left_out.append(
                 f"# {one.name}: {', '.join(arrays)} is an array, which no input has; "
-                f"bin/driver {one.name} {draft.own(one.name)} -o drive_{one.name}.c writes a caller"
+                f"fshell driver {one.name} {draft.own(one.name)} -o drive_{one.name}.c writes a caller"
             )
         else:
             lines += _entry(draft, one.name, queries)
@@ -113,7 +113,7 @@ def text_of(draft: Draft, module: Module, queries: Sequence[str]) -> str:
 
 def write(path: str, module: Module, queries: Sequence[str]) -> tuple[int, int]:
     """Writes the file; gives the numbers of entries and of the module's functions. Raises Failure where a file stands
-    there already, a source or folder isn't there, or the program and bin/adapt refuse the sources."""
+    there already, a source or folder isn't there, or the program and fshell adapt refuse the sources."""
     if os.path.lexists(path):
         raise Failure(f"{path} is there already; move it away, or name another one (-o)")
     folder = os.path.dirname(os.path.abspath(path))

@@ -1,4 +1,4 @@
-"""Has the goals of a query decided in a campaign's folder, as bin/campaign does, by threads of this process: most queries of a
+"""Has the goals of a query decided in a campaign's folder, as fshell campaign does, by threads of this process: most queries of a
 module have few goals, which take less time than GNU parallel does to start. Other machines are asked by GNU parallel."""
 
 import concurrent.futures

@@ -1,9 +1,9 @@
-"""bin/project: tests, reports and judges a module of many functions, as its fshell.toml says.
+"""init, run, report, gate: test, report and judge a module of many functions, as its fshell.toml says.
 
   init SOURCE..   writes a fshell.toml for sources: an entry for each function that can be one
   run             does what isn't done yet, writes the report, and judges the gate
   report          writes the report of what is done
-  check           judges the gate by what is done, and does nothing else
+  gate            judges the gate by what is done, and does nothing else
 
 A run that was stopped goes on where it was; a second one with nothing changed does nothing. The status is 0 where the gate passes,
 and 1 where it fails or something isn't done yet.
@@ -27,9 +27,9 @@ FILE = "fshell.toml"
 
 
 def parser_of_words() -> argument_parsers.Parser:
-    """What reads the words of bin/project and of its four commands; a wrong word ends the tool with status 2."""
+    """What reads the words of the four commands; a wrong word ends the tool with status 2."""
     parser = argument_parsers.parser(
-        "project",
+        "",
         __doc__,
         "the gate passes, or what was asked for is written",
         "the gate fails, or something isn't done",
@@ -39,12 +39,12 @@ def parser_of_words() -> argument_parsers.Parser:
     for name, told in (
         ("run", "does what isn't done yet, writes the report, and judges the gate"),
         ("report", "writes the report of what is done"),
-        ("check", "judges the gate by what is done"),
+        ("gate", "judges the gate by what is done"),
     ):
         one = commands.add_parser(name, help=told, description=told)
         one.add_argument("file", nargs="?", default=FILE, metavar="FILE", help=f"the settings ({FILE})")
         one.add_argument("-o", metavar="DIR", dest="work", help=f"the work folder ({NAME} beside the settings)")
-        if name != "check":
+        if name != "gate":
             one.add_argument("--since", metavar="FOLDER", help="tells the difference to the report in this folder")
         if name == "run":
             one.add_argument(
@@ -52,6 +52,8 @@ def parser_of_words() -> argument_parsers.Parser:
             )
             one.add_argument("--entry", metavar="FUNCTION", help="does the tasks of this entry alone, without a report")
             one.add_argument("--sshloginfile", metavar="FILE", help="the machines, as GNU parallel reads them")
+    for one in argument_parsers.commands_of(parser).values():
+        one.epilog, one.formatter_class = parser.epilog, parser.formatter_class
     return parser
 
 
@@ -69,7 +71,7 @@ def _init_words(one: argparse.ArgumentParser) -> None:
     one.add_argument("--driver", action="append", default=[], metavar="SOURCE", help="a source with drivers or stubs")
     one.add_argument("-I", action="append", default=[], metavar="DIR", dest="include", help="a folder with headers")
     one.add_argument("-D", action="append", default=[], metavar="NAME=VALUE", dest="defines", help="a macro")
-    one.add_argument("--input", action="append", default=[], metavar="NAME", help="as for bin/adapt")
+    one.add_argument("--input", action="append", default=[], metavar="NAME", help="as for fshell adapt")
     one.add_argument(
         "--query", action="append", default=[], metavar="QUERY", help="a criterion or query of each entry (decisions)"
     )
@@ -115,7 +117,7 @@ def told_left(context: Context) -> bool:
         print(f"not done yet: {task.entry.function}, {task.name}")
     if left:
         print(
-            f"{len(left)} tasks aren't done as the sources and {context.settings.path} stand; bin/project run does them"
+            f"{len(left)} tasks aren't done as the sources and {context.settings.path} stand; fshell run does them"
         )
     return bool(left)
 
@@ -168,7 +170,7 @@ def judged(results: Results) -> int:
     return program.DONE if passes else program.OPEN
 
 
-def check(given: argparse.Namespace) -> int:
+def judge(given: argparse.Namespace) -> int:
     """Judges the gate by what is done; the status: 0 where it passes, 1 where it fails or something isn't done."""
     work = work_of(given)
     context = context_of(given, work)
@@ -182,8 +184,8 @@ def main() -> int:
     Failure, by which the tool ends with status 2 too."""
     given = words()
     try:
-        return {"init": init, "run": run, "report": report, "check": check}[given.command](given)
+        return {"init": init, "run": run, "report": report, "gate": judge}[given.command](given)
     except Faults as faults:
         for line in faults.lines:
-            print(f"project: {line}", file=sys.stderr)
+            print(f"{given.command}: {line}", file=sys.stderr)
         return program.FAILED

@@ -82,5 +82,5 @@ class Condition:
 
 
 NO_PAIR, NONE_WITHIN, SHOWN, OPEN = ("no pair", "no pair within the bounds", "shown", "undecided")
-# what the verdict of bin/mcdc on a condition means
+# what the verdict of fshell mcdc on a condition means
 STATES = {Verdict.COVERED: SHOWN, Verdict.UNREACHABLE: NO_PAIR, Verdict.REFUTED: NONE_WITHIN}

@@ -41,7 +41,7 @@ def earlier(folder: str) -> tuple[dict[str, Any], graphs.Graph]:
         rows = [(one["criterion"], one["text"], one["verdict"]) for one in value["goals"]]
         graph = graphs.of_text(program.read(os.path.join(folder, "graph.txt")).decode())
     except (ValueError, KeyError, TypeError, RecursionError):
-        raise Failure(f"{path} is no report of bin/project") from None
+        raise Failure(f"{path} is no report of fshell run") from None
     return {"rows": rows}, graph
 
 

@@ -17,7 +17,7 @@ ADAPT = ("where needed", "always", "never")
 @dataclass(frozen=True)
 class Module:
     """The sources, and how they are read; names are from the settings' folder. `defines` are NAME=VALUE, `answered` the
-    functions that give inputs (--input of bin/adapt), `adapt` one of ADAPT, `left_out` functions that no entry needs to
+    functions that give inputs (--input of fshell adapt), `adapt` one of ADAPT, `left_out` functions that no entry needs to
     reach."""
 
     sources: tuple[str, ...]

@@ -171,7 +171,7 @@ class Errors(Task):
 
 @dataclass(frozen=True)
 class Campaign(Task):
-    """A query whose goals are covered, refuted or left undecided as by bin/campaign; `text` is a criterion or a query."""
+    """A query whose goals are covered, refuted or left undecided as by fshell campaign; `text` is a criterion or a query."""
 
     text: str
 
@@ -215,7 +215,7 @@ class Campaign(Task):
 
 
 class Mcdc(Task):
-    """The pairs of inputs that show for each condition that it decides on its own (MC/DC, DO-178C), by bin/mcdc."""
+    """The pairs of inputs that show for each condition that it decides on its own (MC/DC, DO-178C), by fshell mcdc."""
 
     def key(self, context: Context) -> str:
         """It hangs on the functions that the entry reaches, its bounds, its budget and the given inputs."""
@@ -225,7 +225,7 @@ class Mcdc(Task):
 
     def do(self, context: Context) -> None:
         """Keeps mcdc.json: of each condition its guard's function and place there, its text, the answer, and the pair.
-        Raises Failure where bin/mcdc refuses, but for there being no decision."""
+        Raises Failure where fshell mcdc refuses, but for there being no decision."""
         place, entry, unit = self.place(context), self.entry, context.unit
         place.keep("first.json", [one.value() for one in context.given[entry.function]])
         words = [entry.function, *unit.sources, *entry.options(), "--budget", str(entry.budget), "--json"]

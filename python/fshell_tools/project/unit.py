@@ -1,4 +1,4 @@
-"""The sources that the program reads: a copy of the module's own, or what bin/adapt makes of them, in the work folder."""
+"""The sources that the program reads: a copy of the module's own, or what fshell adapt makes of them, in the work folder."""
 
 import glob
 import hashlib
@@ -32,7 +32,7 @@ class Unit:
 
     @property
     def is_adapted(self) -> bool:
-        """Whether bin/adapt wrote the sources."""
+        """Whether fshell adapt wrote the sources."""
         return bool(self.refusal)
 
     def at(self, name: str) -> str:
@@ -85,7 +85,7 @@ def kept(settings: Settings, place: str) -> Unit | None:
 def made(settings: Settings, place: str) -> Unit:
     """The unit of a module: the one that stands in `place`, or a new one, which is put there whole. Raises Failure
     where the program refuses the sources and they aren't to be adapted, or two have one name, and Faults with what
-    bin/adapt refuses."""
+    fshell adapt refuses."""
     found = kept(settings, place)
     if found:
         return found
@@ -99,7 +99,7 @@ def made(settings: Settings, place: str) -> Unit:
     try:
         program.write_whole(unit.at("graph.txt"), program.answer(["graph", *unit.sources], new))
     except Failure as failure:
-        raise Failure(f"{failure}, of what bin/adapt wrote in {new}" if refusal else str(failure)) from None
+        raise Failure(f"{failure}, of what fshell adapt wrote in {new}" if refusal else str(failure)) from None
     value = {**asdict(unit), "place": ""}
     program.write_whole(unit.at("unit.json"), json.dumps(value, indent=1) + "\n")
     shutil.rmtree(place, ignore_errors=True)
@@ -140,7 +140,7 @@ def _flags(module: Module) -> list[str]:
 
 
 def _adapted(settings: Settings, place: str, refusal: str) -> Unit:
-    """What bin/adapt writes of the sources."""
+    """What fshell adapt writes of the sources."""
     module = settings.module
     flags = [word for name in module.include for word in ("-I", name)]
     flags += [word for one in module.defines for word in ("-D", one)]
@@ -157,7 +157,7 @@ def _adapted(settings: Settings, place: str, refusal: str) -> Unit:
     )
     if ended.returncode:
         told = [line for line in ended.stderr.splitlines() if line] or [f"adapt: status {ended.returncode}"]
-        raise Faults([f"the program doesn't read the sources ({refusal}), and bin/adapt refuses them:", *told])
+        raise Faults([f"the program doesn't read the sources ({refusal}), and fshell adapt refuses them:", *told])
     line = next((one for one in ended.stdout.splitlines() if one.startswith("wrote ")), "wrote ")
     paths = line.removeprefix("wrote ").replace(os.path.abspath(place) + os.sep, "\0").split("\0")
     names = tuple(name.strip() for name in paths[1:])

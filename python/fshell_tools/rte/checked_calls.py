@@ -1,4 +1,4 @@
-"""The operations that bin/adapt --check-overflow wrote as calls: each call of a function of overflow.h is one, of its own.
+"""The operations that fshell adapt --check-overflow wrote as calls: each call of a function of overflow.h is one, of its own.
 
 overflow.json beside the header says which operation of the original a call is. A run that an operation ends wrongly is
 in the function when it ends, and came there by the call's edge; so the goals are that edge, steps of the function, and a node of it
@@ -70,7 +70,7 @@ def header_of(sources: Sequence[str]) -> str:
 
 def table_of(sources: Sequence[str], graph: Graph) -> Table:
     """The table of the sources, an empty one where they have no header of checked operations. Raises Failure where it
-    isn't what bin/adapt wrote."""
+    isn't what fshell adapt wrote."""
     source = header_of(sources)
     if not source:
         return Table()
@@ -84,7 +84,7 @@ def table_of(sources: Sequence[str], graph: Graph) -> Table:
         }
         return Table(source, tuple(name for name in value["functions"] if name in names), calls)
     except (ValueError, KeyError, TypeError):
-        raise Failure(f"{path} isn't what bin/adapt wrote") from None
+        raise Failure(f"{path} isn't what fshell adapt wrote") from None
 
 
 def of_call(finder: Finder, table: Table, edges: tuple[Edge, ...], token: int, text: str, at: str) -> Site:

@@ -1,4 +1,4 @@
-"""Which verdicts of bin/rte hang on the order of evaluation that C leaves open (docs/ORDER.md).
+"""Which verdicts of fshell rte hang on the order of evaluation that C leaves open (docs/ORDER.md).
 
 Most classes restrict all that is said. One doesn't: where a part of an expression may end the run by a trap and another part does
 something, and neither may end it otherwise. If no operation of the statement, and of what it calls, ever fails, then all

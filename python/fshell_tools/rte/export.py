@@ -1,4 +1,4 @@
-"""The rows of bin/rte for other programs: findings at places, and a C file that repeats the failures under gcc's sanitizers."""
+"""The rows of fshell rte for other programs: findings at places, and a C file that repeats the failures under gcc's sanitizers."""
 
 import dataclasses
 import os
@@ -32,7 +32,7 @@ def place_of(row: Row) -> tuple[str, int, int]:
 
 
 def of_the_user(row: Row, asked: Asked) -> Row:
-    """A row as the user knows it: of a source that bin/adapt wrote the place in the original, and its names; `asked`
+    """A row as the user knows it: of a source that fshell adapt wrote the place in the original, and its names; `asked`
     says where the sources stand. An operation that was written as a call has these already."""
     if row.folder == FOLDER:
         return row

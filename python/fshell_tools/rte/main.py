@@ -1,4 +1,4 @@
-"""bin/rte: says of each operation that can end a run of a function wrongly whether it ever does.
+"""fshell rte: says of each operation that can end a run of a function wrongly whether it ever does.
 
 The operations are the divisions, remainders, indices, shifts and asserts of the functions that the entry may call, and with
 --ends any also its assumes and calls. A line each:
@@ -38,7 +38,7 @@ from fshell_tools.rte.search import ENDINGS, has_bounds_certificates, known, not
 
 
 def parser_of_words() -> argument_parsers.Parser:
-    """What reads the words of bin/rte; a wrong word ends the tool with status 2."""
+    """What reads the words of fshell rte; a wrong word ends the tool with status 2."""
     parser = argument_parsers.parser(
         "rte", __doc__, "each row is `never`, and the bounds suffice", "a row is another, or the bounds don't suffice"
     )

@@ -1,6 +1,6 @@
 """A C file that repeats the runs of inputs that end wrongly, under the sanitizers of a compiler, and what gcc's say of them.
 
-Sources stand in it as in the file of bin/harness. Of overflow.h, which bin/adapt writes, the asserts are left out there, so that the
+Sources stand in it as in the file of fshell harness. Of overflow.h, which fshell adapt writes, the asserts are left out there, so that the
 operation itself is done and reported.
 """
 
@@ -22,7 +22,7 @@ FLAGS = ("-w", "-fsanitize=undefined", "-fno-sanitize-recover=all")
 WRAPS = "-fwrapv"  # where overflows aren't asked about: then gcc reports none
 SECONDS = 10
 HEAD = (
-    """/* Written by FShell's bin/rte: runs of {entry} that end wrongly. Compile it with
+    """/* Written by FShell's fshell rte: runs of {entry} that end wrongly. Compile it with
    {command}
    and run it with the number of an input of inputs.json, from 1. */
 #include <stddef.h>

@@ -1,4 +1,4 @@
-"""The rows of bin/rte: what is said of each operation that can end a run wrongly."""
+"""The rows of fshell rte: what is said of each operation that can end a run wrongly."""
 
 import enum
 import os
@@ -47,7 +47,7 @@ class Row:
         return f"{self.place}: {self.verdict}: {self.what}{why}"
 
     def lines(self, folder: str) -> Iterator[str]:
-        """The row's line, and of a failure how it is repeated, and what gcc says of it; `folder` is that of bin/rte."""
+        """The row's line, and of a failure how it is repeated, and what gcc says of it; `folder` is that of fshell rte."""
         yield self.line()
         if self.number:
             yield f"  to repeat it: {os.path.join(folder, 'failures')} {self.number}"

@@ -1,4 +1,4 @@
-"""What is known of the goals of bin/rte, and of its bounds, in its folder: each fact is a file, and is checked again in each run.
+"""What is known of the goals of fshell rte, and of its bounds, in its folder: each fact is a file, and is checked again in each run.
 
 The folder is that of a campaign (python/fshell_tools/campaign/state_folder.py) with `bounds.cert`, the certificate that the bounds suffice, and the folder
 `reached`, which is that of a campaign for the nodes that runs come to.

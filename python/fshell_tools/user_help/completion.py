@@ -1,32 +1,31 @@
-"""Completion for bash, made of docs/COMMANDS.md for the program and of each tool's own words (argument_parsers.py)."""
+"""Completion for bash, zsh and fish, made of docs/COMMANDS.md for the program and of each tool's own words (argument_parsers.py).
+
+    fshell completion bash    the script for bash; zsh and fish alike
+"""
 
 import argparse
+import os
 import re
 
-from fshell_tools import cli
-from fshell_tools.core import argument_parsers
+from fshell_tools import cli, commands
+from fshell_tools.core import argument_parsers, program
 from fshell_tools.core.reports import ENDS
 from fshell_tools.user_help.manual_pages import OPTIONS, rows
 
 FOLDERS = ("DIR", "FOLDER")
 FILES = ("FILE", "SOURCE", "OUT", "SOURCES")
-SCRIPT = """# completion of FShell for bash
+FIRST = "--help --version --explain help"
+BASH = """# completion of FShell for bash
 _fshell() {{
-  local tool=${{COMP_WORDS[0]##*/}} word=${{COMP_WORDS[COMP_CWORD]}} before=${{COMP_WORDS[COMP_CWORD - 1]}} options= commands= kind=files
-  case $tool in
-{commands}
-  esac
-  if [ -n "$commands" ] && [ "$COMP_CWORD" -eq 1 ]; then
-    case $tool in
-{firsts}
-    esac
-    mapfile -t COMPREPLY < <(compgen -W "$commands $options" -- "$word")
+  local word=${{COMP_WORDS[COMP_CWORD]}} before=${{COMP_WORDS[COMP_CWORD - 1]}} command=${{COMP_WORDS[1]}} options= kind=files
+  if [ "$COMP_CWORD" -eq 1 ]; then
+    mapfile -t COMPREPLY < <(compgen -W "{commands}" -- "$word")
     return
   fi
-  case "$tool ${{COMP_WORDS[1]}}" in
+  case $command in
 {options}
   esac
-  case "$tool $before" in
+  case "$command $before" in
 {values}
   esac
   case $kind,$word in
@@ -36,8 +35,12 @@ _fshell() {{
   *) mapfile -t COMPREPLY < <(compgen -W "${{kind#words}}" -- "$word") ;;
   esac
 }}
-complete -o filenames -F _fshell {names}
+complete -o filenames -F _fshell fshell
 """
+ZSH = """#compdef fshell
+# completion of FShell for zsh, by that for bash
+autoload -U +X bashcompinit && bashcompinit
+{bash}"""
 
 
 def program_commands(commands: str) -> dict[str, list[tuple[str, str]]]:
@@ -64,40 +67,71 @@ def rows_of(tool: str, parser: argparse.ArgumentParser) -> tuple[str, dict[str, 
     return names, kinds
 
 
-def completion(commands: str) -> str:
-    """The script for the program and all tools."""
-    firsts: dict[str, str] = {}
-    heads: dict[str, str] = {}
-    options: dict[str, str] = {}
-    values: dict[str, str] = {}
-    of_program = program_commands(commands)
-    heads["fshell"], firsts["fshell"] = " ".join(of_program), "--help --explain"
-    for command, takes in of_program.items():
-        options[f"'fshell {command}'"] = " ".join(name for name, _ in takes)
-        values |= {f"fshell {name}": "words" for name, value in takes if value}
-    values["fshell --ends"] = "words" + " ".join(ENDS)
-    for name in cli.TOOLS:
-        tool, parser = f"fshell-{name}", cli.of_tool(name)
-        names, kinds = rows_of(tool, parser)
-        inner = argument_parsers.commands_of(parser)
-        if inner:
-            heads[tool], firsts[tool] = " ".join(inner), names
-        else:
-            options[f"'{tool} '*"] = names
-        values |= kinds
-        for command, its in inner.items():
-            options[f"'{tool} {command}'"], more = rows_of(tool, its)
-            values |= more
+Words = dict[str, str]
 
-    def cases(name: str, of: dict[str, str]) -> str:
-        return "\n".join(f"  {key}) {name}='{text}' ;;" for key, text in of.items())
 
-    behind = {f"'{key}'": kind for key, kind in values.items() if kind != "files"}
-    names = " ".join(["fshell", *(f"fshell-{name}" for name in cli.TOOLS)])
-    return SCRIPT.format(
-        commands=cases("commands", heads),
-        firsts=cases("options", firsts),
-        options=cases("options", options),
-        values=cases("kind", behind),
-        names=names,
+def words_of_all(page: str) -> tuple[Words, Words]:
+    """The options of each command in one text, and what is behind each option that takes a value, by `COMMAND OPTION`. `page` is
+    docs/COMMANDS.md."""
+    options: Words = {}
+    values: Words = {"help help": "words" + " ".join(commands.ALL)}
+    for command, takes in program_commands(page).items():
+        options[command] = " ".join(name for name, _ in takes)
+        values |= {f"{command} {name}": "words" + (" ".join(ENDS) if name == "--ends" else "") for name, value in takes if value}
+    for name in commands.TOOLS:
+        options[name], more = rows_of(name, cli.of_tool(name))
+        values |= more
+    return options, values
+
+
+def bash(page: str) -> str:
+    """The script for bash."""
+    options, values = words_of_all(page)
+    return BASH.format(
+        commands=f"{' '.join(commands.ALL)} {FIRST}",
+        options="\n".join(f"  {name}) options='{text}' ;;" for name, text in options.items()),
+        values="\n".join(f"  '{key}') kind='{kind}' ;;" for key, kind in values.items() if kind != "files"),
     )
+
+
+def zsh(page: str) -> str:
+    """The script for zsh, which runs that for bash."""
+    return ZSH.format(bash=bash(page))
+
+
+def fish(page: str) -> str:
+    """The script for fish."""
+    options, values = words_of_all(page)
+    lines = ["# completion of FShell for fish"]
+    for name, command in commands.ALL.items():
+        lines.append(f"complete -c fshell -n __fish_use_subcommand -f -a {name} -d {quoted(command.summary)}")
+    for name, text in options.items():
+        for option in text.split():
+            if option.startswith("--"):
+                kind = values.get(f"{name} {option}")
+                takes = "" if kind is None else " -r" if not kind.startswith("words") else f" -x -a {quoted(kind[5:])}"
+                lines.append(f"complete -c fshell -n '__fish_seen_subcommand_from {name}' -l {option[2:]}{takes}")
+    return "\n".join(lines) + "\n"
+
+
+def quoted(text: str) -> str:
+    """A text as one word of fish."""
+    return "'" + text.replace("\\", "\\\\").replace("'", "\\'") + "'"
+
+
+SHELLS = {"bash": bash, "zsh": zsh, "fish": fish}
+
+
+def parser_of_words() -> argument_parsers.Parser:
+    """What reads the words of the command."""
+    parser = argument_parsers.parser("completion", __doc__, "the script is written")
+    parser.add_argument("shell", choices=list(SHELLS), help="the shell")
+    return parser
+
+
+def main() -> int:
+    """Writes the script for a shell to standard output; the status."""
+    given = parser_of_words().parse_args()
+    page = program.read(os.path.join(cli.documents(), "COMMANDS.md")).decode()
+    print(SHELLS[given.shell](page), end="")
+    return program.DONE

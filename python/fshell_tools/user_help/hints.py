@@ -1,26 +1,30 @@
-"""Says behind a refusal, on a terminal, what was wanted and where to look, in one line (bin/fshell calls it).
+"""Prints behind a refusal what was wanted and which command helps, in one line (bin/fshell calls it).
 
     python3 python hint LINE WORD..     the line of the refusal, and the words of the program
 
-The line is what `fshell --explain` says of the code, and what these words and these sources have to do with it: the word that
-isn't one, names that are near, the signature of the entry, the text at the place.
+The line has the text of `fshell --explain` for the code, and what these words and these sources have to do with it: the word that
+isn't one, names that are near, the signature of the entry, the text at the place. A source outside of the profile is led on to
+`fshell adapt` and `fshell init`.
 """
 
 import difflib
 import json
 import os
 import re
+import shlex
 import subprocess
 import sys
 from collections.abc import Iterator, Sequence
 from dataclasses import dataclass, field
 
+from fshell_tools import commands as table
 from fshell_tools.core import declarations, program
 from fshell_tools.core.declarations import Item
 from fshell_tools.core.sources import Source
 from fshell_tools.user_help import manual_pages
 
 NUMBERS = {"--turns", "--frames", "--answers", "--budget", "--steps"}
+OF_SOURCES = range(10, 40)  # the codes of sources that are refused
 FILTERS = (
     "ID FILE LINE FUNC LABEL CALL ENTRY EXIT DEF USE BASICBLOCKENTRY CONDITIONEDGE CONDITIONGRAPH DECISIONEDGE STMTTYPE"
 ).split()
@@ -66,7 +70,7 @@ def words_of(words: Sequence[str]) -> Words:
     """The words with what is wrong of them, if that is seen."""
     known = commands()
     if not words or words[0] not in known:
-        wrong = f"`{words[0]}` is no command{near(words[0], list(known))}" if words else "no command is named"
+        wrong = f"`{words[0]}` is no command{near(words[0], list(table.ALL))}" if words else "no command is named"
         return Words(words[0] if words else "", [], [], wrong=f"{wrong}; fshell --help lists them")
     found = Words(words[0], *known[words[0]])
     waiting, seen, is_open = list(words[1:]), set(), True
@@ -220,8 +224,15 @@ def multiplying(found: Words, code: int, words: Sequence[str]) -> str:
     """Which command says what multiplies."""
     options = " ".join(re.findall(r"--(?:turns|frames|answers)[ =]\d+", " ".join(words)))
     sources, entry_of = " ".join(found.named("SOURCE...")), (found.named("ENTRY") or [""])[0]
-    asked = f"bin/explain {code} {sources} --entry {entry_of} {options}".strip()
+    asked = f"fshell explain {code} {sources} --entry {entry_of} {options}".strip()
     return f"`{asked}` says which loops and calls multiply"
+
+
+def led_on(found: Words) -> Iterator[str]:
+    """The commands for sources that aren't in the profile."""
+    sources = " ".join(map(shlex.quote, found.named("SOURCE...")))
+    if sources:
+        yield f"next: `fshell adapt {sources} -o adapted` translates C as it is written, `fshell init {sources}` tests a module"
 
 
 def hints(line: str, words: Sequence[str]) -> Iterator[str]:
@@ -253,6 +264,8 @@ def hints(line: str, words: Sequence[str]) -> Iterator[str]:
             yield from at_column(found, place)
         else:
             yield from at_line(found, place)
+            if code in OF_SOURCES:
+                yield from led_on(found)
     except (program.Failure, IndexError):
         pass  # (a source that isn't read tells nothing)
 

@@ -4,7 +4,7 @@ import argparse
 import re
 from collections.abc import Iterator
 
-from fshell_tools import cli
+from fshell_tools import cli, commands
 from fshell_tools.core import argument_parsers
 
 OPTIONS = re.compile(r"`(--[a-z]+)(?: ([A-Z]+))?`")
@@ -91,12 +91,12 @@ def page(name: str, what: str, synopsis: list[str], parts: dict[str, str]) -> st
 # ---- the pages
 
 
-def command_pages(commands: str) -> dict[str, str]:
+def command_pages(text: str) -> dict[str, str]:
     """The pages of the program and of each of its commands, by their names."""
-    table = [cells for cells in rows(commands) if len(cells) == 3 and re.fullmatch(r"`[a-z-]+`", cells[0])]
-    options = [cells for cells in rows(commands) if len(cells) == 4]
-    about = commands.split("## ", 1)[0].split("\n\n", 1)[1]
-    statuses = "".join(f"| {cells[0]} | {cells[1]} |\n" for cells in rows(commands) if re.fullmatch(r"\d+", cells[0]))
+    table = [cells for cells in rows(text) if len(cells) == 3 and re.fullmatch(r"`[a-z-]+`", cells[0])]
+    options = [cells for cells in rows(text) if len(cells) == 4]
+    about = text.split("## ", 1)[0].split("\n\n", 1)[1]
+    statuses = "".join(f"| {cells[0]} | {cells[1]} |\n" for cells in rows(text) if re.fullmatch(r"\d+", cells[0]))
     statuses = "| Status | Meaning |\n|---|---|\n" + statuses
     found = {
         "fshell": page("fshell", "measures and makes test inputs for C by coverage queries", ["COMMAND WORD.."],
@@ -110,7 +110,7 @@ def command_pages(commands: str) -> dict[str, str]:
             for row in options
             if row[0].strip("`") in given
         )
-        parts = {"DESCRIPTION": next(text for heading, text in sections(commands).items() if name in heading.split())}
+        parts = {"DESCRIPTION": next(part for heading, part in sections(text).items() if name in heading.split())}
         if mine:
             parts["OPTIONS"] = "| Option | Meaning |\n|---|---|\n" + mine
         parts["EXIT STATUS"] = statuses
@@ -136,7 +136,7 @@ def table(lines: list[str]) -> str:
 def parts_of(name: str, about: str) -> dict[str, str]:
     """The sections of a tool's page."""
     tool = cli.of_tool(name)
-    parts = {"DESCRIPTION": about.replace("`bin/", "`fshell-")}
+    parts = {"DESCRIPTION": about}
     arguments, options = list(rows_of(tool, False)), list(rows_of(tool, True))
     commands = argument_parsers.commands_of(tool)
     if commands:
@@ -156,17 +156,16 @@ def parts_of(name: str, about: str) -> dict[str, str]:
 def tool_pages(tools: str) -> dict[str, str]:
     """The pages of the tools, by their names."""
     found = {}
-    whats = {cells[0].strip("`").removeprefix("bin/"): cells[1] for cells in rows(tools.split("## ", 1)[0])}
+    headings = {name: text for heading, text in sections(tools).items() for name in heading.removeprefix("fshell ").split(", ")}
     for name in cli.TOOLS:
-        text = sections(tools)[f"bin/{name}"].strip("\n")
+        text = headings[name].strip("\n")
         head, _, rest = text.partition("\n\n")
         forms = re.sub(
             r"\n +(?=\[)",
             " ",
-            "\n".join(line.strip() if line.strip().startswith("bin/") else line for line in head.splitlines()),
+            "\n".join(line.strip() if line.strip().startswith("fshell ") else line for line in head.splitlines()),
         )
-        synopsis = [
-            re.split(r"\s{3,}", line.strip())[0].removeprefix(f"bin/{name}").strip() for line in forms.splitlines()
-        ]
-        found[f"fshell-{name}"] = page(f"fshell-{name}", whats[name], synopsis, parts_of(name, rest))
+        named = [re.split(r"\s{3,}", line.strip())[0].split(" ", 2) for line in forms.splitlines()]
+        synopsis = [" " + "".join(line[2:]) for line in named if line[1] == name]
+        found[f"fshell-{name}"] = page(f"fshell-{name}", commands.TOOLS[name].summary, synopsis, parts_of(name, rest))
     return found

@@ -12,7 +12,7 @@ from tests import environment
 from tests.text_files import text_of
 
 FEWER_WORDS = 900
-TRIED_BY = {"package": "install"}  # the tools whose cases stand in another one's module
+TRIED_BY = {"package": "install", "init": "project", "run": "project", "report": "project", "gate": "project"}  # the tools whose cases stand in another one's module
 
 
 def commands(text: str) -> list[str]:
@@ -22,8 +22,9 @@ def commands(text: str) -> list[str]:
 
 
 def tools(text: str) -> list[str]:
-    """The tools that a page has headings of, such as `## bin/page`."""
-    return re.findall(r"^## bin/(\w+)$", text, re.MULTILINE)
+    """The tools that a page has headings of, such as `## fshell page`."""
+    found = re.findall(r"^## fshell ([\w, ]+)$", text, re.MULTILINE)
+    return [name for heading in found for name in heading.split(", ")]
 
 
 def faults(readme: str, of_commands: str, of_tools: str, pages: list[str]) -> list[str]:
@@ -31,7 +32,7 @@ def faults(readme: str, of_commands: str, of_tools: str, pages: list[str]) -> li
     the texts of docs/COMMANDS.md and docs/TOOLS.md, `pages` the paths of the pages."""
     count = len(readme.split())
     wrong = [] if count < FEWER_WORDS else [f"it has {count} words, and should have fewer than {FEWER_WORDS}"]
-    named = [*commands(of_commands), *(f"bin/{tool}" for tool in tools(of_tools)), *pages]
+    named = [*commands(of_commands), *(f"fshell {tool}" for tool in tools(of_tools)), *pages]
     return wrong + [f"it doesn't name `{name}`" for name in named if f"`{name}`" not in readme]
 
 
@@ -60,4 +61,4 @@ def wrong() -> list[str]:
         for page in ("README.md", *pages)
         for fault in of_kit(text_of(os.path.join(environment.ROOT, page)), kit)
     ]
-    return [f"README.md: {fault}" for fault in found] + [f"bin/{fault}" for fault in without_cases(of_tools)] + of_kits
+    return [f"README.md: {fault}" for fault in found] + [f"fshell {fault}" for fault in without_cases(of_tools)] + of_kits

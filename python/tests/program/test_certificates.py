@@ -3,7 +3,7 @@
 Those of bounds that suffice, which `prove-bounds` writes and `check-bounds` reads, are tried in the same way as those of goals.
 
 Each goal below is refuted within its bounds. What `prove` writes for it must be a certificate that the checker here accepts,
-and that `check` accepts for its goal; each line of its DRAT form, as bin/drat writes it, must follow by unit propagation. With
+and that `check` accepts for its goal; each line of its DRAT form, as fshell drat writes it, must follow by unit propagation. With
 the certificate of the goal before it `check` must answer 91, and of each changed certificate, one of some bytes being another
 one, it must accept none that the checker here rejects.
 """
@@ -136,11 +136,11 @@ def follows(clauses: list[Numbers], clause: Numbers) -> bool:
 
 
 def is_drat(folder: str, text: str) -> bool:
-    """Whether bin/drat writes the certificate's formula, and lines that follow one by one and end with the empty clause."""
+    """Whether fshell drat writes the certificate's formula, and lines that follow one by one and end with the empty clause."""
     path = os.path.join(folder, "drat.cert")
     with open(path, "w", encoding="ascii") as file:
         file.write(text)
-    subprocess.run([os.path.join(environment.ROOT, "bin", "drat"), path, os.path.join(folder, "written")], check=True)
+    subprocess.run([os.path.join(environment.ROOT, "bin", "fshell"), "drat", path, os.path.join(folder, "written")], check=True)
     with open(os.path.join(folder, "written.cnf"), encoding="ascii") as file:
         dimacs = file.read()
     with open(os.path.join(folder, "written.drat"), encoding="ascii") as file:

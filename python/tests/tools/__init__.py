@@ -34,7 +34,7 @@ def example(path: str) -> str:
 
 @dataclasses.dataclass
 class Case:
-    """Files, the words after bin/, and what is due. A text that is None isn't compared; `written` has the files that must
+    """Files, the words after `fshell`, and what is due. A text that is None isn't compared; `written` has the files that must
     stand afterwards beside the given ones, or `written` is None."""
 
     name: str
@@ -50,7 +50,7 @@ class Case:
 def run(folder: str, words: Sequence[str], **more: Any) -> subprocess.CompletedProcess[str]:
     """How a tool ends that is run in a folder."""
     return subprocess.run(
-        [os.path.join(environment.ROOT, "bin", words[0]), *words[1:]],
+        [os.path.join(environment.ROOT, "bin", "fshell"), *words],
         cwd=folder,
         stdin=subprocess.DEVNULL,
         capture_output=True,

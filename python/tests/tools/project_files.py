@@ -1,4 +1,4 @@
-"""The files of bin/project's cases: a module of two functions, what is asked of it, and what is told."""
+"""The files of fshell run's cases: a module of two functions, what is asked of it, and what is told."""
 
 DIRECTORY = "fshell.out"
 LAMP = {"lamp.c": """int key(void);

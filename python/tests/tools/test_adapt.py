@@ -1,4 +1,4 @@
-"""The cases of bin/adapt: what it writes of small sources and what it refuses of them, by the tables of python/tests/tools/adapt_tables/, one for
+"""The cases of fshell adapt: what it writes of small sources and what it refuses of them, by the tables of python/tests/tools/adapt_tables/, one for
 each row of docs/ADAPT.md; the command itself; and the modules of examples/modules, all the way.
 
 A case of a table begins with `== NAME`, behind which words for adapt may stand after a `|`. Its source follows, or several, each
@@ -47,7 +47,7 @@ CASES = [
          "adapt: fshell runs: error 51 Shape input 1\n", None, NEEDS),
 ]  # fmt: skip
 # each module with adapt's words, an entry, and the program's options
-Given = tuple[str, Sequence[str], str, Sequence[str]]  # a module, words for bin/adapt, its entry, and bounds
+Given = tuple[str, Sequence[str], str, Sequence[str]]  # a module, words for fshell adapt, its entry, and bounds
 WAYS: list[Given] = [
     ("can.c", [], "can_receive", ["--turns", "3", "--answers", "4"]),
     ("uart.c", [], "uart_poll", ["--turns", "2", "--answers", "4"]),
@@ -164,7 +164,7 @@ def bounds_are_those_that_suffice(folder: str) -> Iterator[bool]:
         ("f", 17, 2, 8, "suffice"), ("f", 16, 2, 8, "left"), ("f", 17, 1, 8, "left"), ("f", 17, 2, 7, "left"),
         ("h", 0, 3, 1, "suffice"), ("h", 0, 2, 1, "left"), ("h", 0, 3, 0, "left"),
     ):  # fmt: skip
-        words = ["fshell", "bounds", entry, "new/a.c", "--turns", turns, "--frames", frames, "--answers", answers]
+        words = ["bounds", entry, "new/a.c", "--turns", turns, "--frames", frames, "--answers", answers]
         yield run(folder, [str(word) for word in words]).stdout.startswith(f"bounds {end}")
 
 
@@ -303,7 +303,7 @@ STUBBED = {
 
 
 def stubs_with_arguments_answer_the_original(folder: str) -> Iterator[bool]:
-    """Several sources, of which the tests include one: stubs, as bin/driver writes them, get their values from the inputs."""
+    """Several sources, of which the tests include one: stubs, as fshell driver writes them, get their values from the inputs."""
     put(folder, STUBBED)
     yield run(folder, ["driver", "-", "main.c", "sum.c", "--stubs", "stubs.c"]).returncode == 0
     sources = ["main.c", "sum.c", "stubs.c"]

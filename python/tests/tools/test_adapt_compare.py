@@ -1,4 +1,4 @@
-"""The cases of `bin/adapt --compare`: what it says of runs that agree, that differ and that have no meaning, by which builds, on
+"""The cases of `fshell adapt --compare`: what it says of runs that agree, that differ and that have no meaning, by which builds, on
 which inputs; the report that it writes, and that a campaign over what was written names it. What is due is worked out by hand.
 """
 
@@ -91,7 +91,7 @@ def a_loop_without_an_end_is_compared_up_to_there(folder: str) -> Iterator[bool]
 
 
 def with_path(folder: str, path: str, *words: str) -> subprocess.CompletedProcess[str]:
-    """How bin/adapt ends with PATH as the only folder of programs; the program itself is the one that is known already."""
+    """How fshell adapt ends with PATH as the only folder of programs; the program itself is the one that is known already."""
     words = (sys.executable, environment.TOOLS, "adapt", "a.c", "-o", "new", *words)
     program = subprocess.run([os.path.join(environment.ROOT, "bin", "program")], capture_output=True, text=True)
     known = os.environ.get("FSHELL") or program.stdout.rstrip("\n")
@@ -243,23 +243,23 @@ def a_campaign_names_the_report(folder: str) -> Iterator[bool]:
     )
     words = ["campaign", "-o", "all", "--jobs", "1"]
     yield run(folder, ["adapt", "a.c", "-o", "new"]).returncode == 0
-    none = "new was written by bin/adapt, compared with the original on no inputs (bin/adapt --compare)\n"
+    none = "new was written by fshell adapt, compared with the original on no inputs (fshell adapt --compare)\n"
     ended = run(folder, [*words, "f", "cover @CONDITIONEDGE", "new/a.c"])
     yield ended.returncode == 0 and none in ended.stdout
     with one_build():
         yield adapted([os.path.join(folder, "a.c"), "-o", os.path.join(folder, "new"), "--compare", "2"])[0] == 0
-    line = ("new was written by bin/adapt, compared with the original on 2 random and 2 boundary inputs, 0 differ, of 0 C gives the end no "
+    line = ("new was written by fshell adapt, compared with the original on 2 random and 2 boundary inputs, 0 differ, of 0 C gives the end no "
             "meaning: new/compare.json, by gcc -O0\n")  # fmt: skip
     yield line in run(folder, words).stdout
     with open(os.path.join(folder, "all", "report.json"), encoding="utf-8") as file:
         yield json.load(file)["compared"] == [{"folder": "new", "path": "new/compare.json", "random": 2, "boundary": 2, "differences": 0,
                                                "without_meaning": 0, "builds": ["gcc -O0"]}]  # fmt: skip
     put(folder, {"a.h": "#define LIMIT 6 \n"})
-    yield "new was written by bin/adapt, new/compare.json is of other files; run bin/adapt --compare again\n" in run(
+    yield "new was written by fshell adapt, new/compare.json is of other files; run fshell adapt --compare again\n" in run(
         folder, words
     ).stdout
     put(folder, {"new/compare.json": "{}\n"})
-    yield "new was written by bin/adapt, new/compare.json is no report of bin/adapt --compare\n" in run(
+    yield "new was written by fshell adapt, new/compare.json is no report of fshell adapt --compare\n" in run(
         folder, words
     ).stdout
 

@@ -1,4 +1,4 @@
-"""How large the unwindings are of what bin/adapt writes of pointers, and how many goals it has, on the fifteen small programs of
+"""How large the unwindings are of what fshell adapt writes of pointers, and how many goals it has, on the fifteen small programs of
 python/tests/tools/adapt_tables/pointers: a cursor, a list by pointers to pointers, a tokenizer, a ring, a heap, a header, bytes of integers ..
 
 Goals are counted by hand, two for each condition, those of the models among them. What size is due is that of the same programs written
@@ -23,7 +23,7 @@ LIMIT, PRODUCT = 4_194_304, 8 * 32 * 32
 
 class Due(NamedTuple):
     """A program: its conditions, the turns at which its size is known by hand, this size, the most turns before 81, of how many hundredths
-    of the size what is written may be, and words for bin/adapt."""
+    of the size what is written may be, and words for fshell adapt."""
 
     name: str
     conditions: int

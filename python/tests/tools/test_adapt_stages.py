@@ -1,4 +1,4 @@
-"""The stages of bin/adapt, each by itself: on a tree that the parser makes of a few lines, with what is due by hand.
+"""The stages of fshell adapt, each by itself: on a tree that the parser makes of a few lines, with what is due by hand.
 
 No stage knows a later one: a module imports from its own stage and from those before it alone, by the order of python/fshell_tools/adapt/pipeline.py.
 """

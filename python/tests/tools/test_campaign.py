@@ -1,4 +1,4 @@
-"""The cases of bin/campaign: verdicts by hand, and folders that are killed, cut and changed."""
+"""The cases of fshell campaign: verdicts by hand, and folders that are killed, cut and changed."""
 
 import json
 import os
@@ -68,7 +68,7 @@ def due(known: int) -> list[str]:
 
 def accepted(folder: str, goal: int) -> bool:
     """Whether check accepts the certificate of a goal."""
-    words = ["fshell", "check", "fee", PAIRS, str(goal), f"new/certificates/{goal}.cert", "fee.c"]
+    words = ["check", "fee", PAIRS, str(goal), f"new/certificates/{goal}.cert", "fee.c"]
     return run(folder, words).stdout == f"goal {goal} refuted turns 4 frames 8 answers 16\n"
 
 
@@ -76,7 +76,7 @@ def is_right(folder: str) -> bool:
     """Whether a campaign's files say what is right: verdicts, certificates, and a suite that covers as much as all inputs."""
     rest = ["fee.c", "--ends", "returned"]
     counts = {
-        name: run(folder, ["fshell", "measure", "fee", PAIRS, f"new/{name}.json", *rest]).stdout.splitlines()[-1]
+        name: run(folder, ["measure", "fee", PAIRS, f"new/{name}.json", *rest]).stdout.splitlines()[-1]
         for name in ("inputs", "suite")
     }
     return (
@@ -192,7 +192,7 @@ def killed_at_any_moment_it_goes_on(folder: str) -> Iterator[bool]:
     """At twenty moments all processes of a campaign are killed; some of what it has found is taken away before it goes on."""
     put(folder, FEE)
     chance = random.Random(1)
-    words = [os.path.join(environment.ROOT, "bin", "campaign"), "-o", "new", "--jobs", "2"]
+    words = [os.path.join(environment.ROOT, "bin", "fshell"), "campaign", "-o", "new", "--jobs", "2"]
     first = ["fee", PAIRS, "fee.c"]
     for moment in range(20):
         started = subprocess.Popen(

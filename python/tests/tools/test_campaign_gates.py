@@ -1,4 +1,4 @@
-"""More cases of bin/campaign: gates that nothing was tested for, bounds that are left, folders that are the same, sources that
+"""More cases of fshell campaign: gates that nothing was tested for, bounds that are left, folders that are the same, sources that
 changed in comments. The numbers of turns, frames and answers are counted by hand."""
 
 import json
@@ -156,8 +156,8 @@ def line_breaks_of_a_query_make_no_lines(folder: str) -> Iterator[bool]:
     told = run(folder, ["explain", query, "a.c"])
     yield told.returncode == 0 and told.stdout.endswith("2 goals\n")
     yield told.stdout.startswith("goal 1:\n  {x == 0 /* goal 2 refuted e0@a.c:2 */} holds\ngoal 2:\n")
-    made = run(folder, ["fshell", "generate", "f", query, "a.c"]).stdout
-    put(folder, {"made": made, "json": run(folder, ["fshell", "generate", "--json", "f", query, "a.c"]).stdout})
+    made = run(folder, ["generate", "f", query, "a.c"]).stdout
+    put(folder, {"made": made, "json": run(folder, ["generate", "--json", "f", query, "a.c"]).stdout})
     yield run(folder, ["explain", "made", "a.c"]).returncode == 2
     yield run(folder, ["explain", "json", "a.c"]).stdout.endswith("2 goals: 2 covered\n")
     yield run(folder, ["inputs", "json"]).stdout == "0\n1\n"

@@ -1,4 +1,4 @@
-"""The cases of bin/drat, by hand from docs/CERTIFICATES.md; python/tests/program/test_certificates.py looks at what it writes of five goals."""
+"""The cases of fshell drat, by hand from docs/CERTIFICATES.md; python/tests/program/test_certificates.py looks at what it writes of five goals."""
 
 
 from tests.tools import Case, example

@@ -1,4 +1,4 @@
-"""The cases of bin/driver: what it writes, what it refuses, and that gcc and the program take what it writes."""
+"""The cases of fshell driver: what it writes, what it refuses, and that gcc and the program take what it writes."""
 
 import os
 import subprocess
@@ -7,7 +7,7 @@ from collections.abc import Iterator
 from tests.tools import EXAMPLES, Case, example, put, run
 
 NEEDS = ("gcc", "pycparser")
-HEAD = """/* Written by bin/driver for {what}. What isn't an integer comes from input functions, which are named after it.
+HEAD = """/* Written by fshell driver for {what}. What isn't an integer comes from input functions, which are named after it.
    Edit it as you like; fshell.toml names it under drivers. */
 """
 BUS = {
@@ -106,7 +106,7 @@ int drive_look(unsigned int wanted)
 }
 """
 )
-STUBS = """/* Written by bin/driver: stubs of functions that no source defines. Each gives what an input function says, and notes
+STUBS = """/* Written by fshell driver: stubs of functions that no source defines. Each gives what an input function says, and notes
    its arguments. Edit it as you like; fshell.toml names it under drivers. */
 #include "bus.h"
 
@@ -167,12 +167,12 @@ def what_is_written_is_read(folder: str) -> Iterator[bool]:
     sources = line.split()[1:]
     made = run(
         folder,
-        ["fshell", "generate", "drive_bus_step", "cover {stub_write_frame_arg0 == 3}", *sources, "--answers", "18"],
+        ["generate", "drive_bus_step", "cover {stub_write_frame_arg0 == 3}", *sources, "--answers", "18"],
     )
     yield made.stdout.endswith("covered 1 refuted 0 undecided 0 of 1\n")
     put(folder, {"in": '[{"args": [0], "answers": [4, 0, 0, 1, 0, 0, 4, 0, 0, 1, 0, 0, 4, 0, 0, 1, 7, 35]}]\n'})
     # by hand: three steps raise the count to 3, and the last one gives 35 + 7
-    order = run(folder, ["fshell", "runs", "drive_bus_step", "in", *sources]).stdout
+    order = run(folder, ["runs", "drive_bus_step", "in", *sources]).stdout
     yield order.startswith("input 1 returned 42 ")
 
 

@@ -1,4 +1,4 @@
-"""The cases of bin/explain: the places are those of python/tests/program/command_cases/ and docs/COMMANDS.md, the texts by hand."""
+"""The cases of fshell explain: the places are those of python/tests/program/command_cases/ and docs/COMMANDS.md, the texts by hand."""
 
 from collections.abc import Iterator
 
@@ -256,7 +256,7 @@ def a_bound_that_is_left_is_told(folder: str) -> Iterator[bool]:
     put(folder, {"count.c": example("counting/count.c")})
     put(
         folder,
-        {"made": run(folder, ["fshell", "generate", "count", "cover @LINE(7)", "count.c", "--turns", "2"]).stdout},
+        {"made": run(folder, ["generate", "count", "cover @LINE(7)", "count.c", "--turns", "2"]).stdout},
     )
     said = run(folder, ["explain", "made", "count.c", "--entry", "count"]).stdout.splitlines()
     yield said[0] == "goal 1: refuted within the bounds" and said[2] == "1 goals: 1 refuted within the bounds"
@@ -271,7 +271,7 @@ def pairs_are_counted_as_the_program_does(folder: str) -> Iterator[bool]:
         told = run(folder, ["explain", "80", "w.c", "--entry", "f", "--turns", str(turns)]).stdout
         yield f"walks from f reach {pairs} pairs within" in told
         refused = run(
-            folder, ["fshell", "bounds", "f", "w.c", "--turns", str(turns), "--budget", "1"]
+            folder, ["bounds", "f", "w.c", "--turns", str(turns), "--budget", "1"]
         ).stderr.startswith("error 80 ")
         yield refused == (pairs > 50_000)
 

@@ -19,7 +19,7 @@ def rows() -> Iterator[list[str]]:
 def answer(folder: str, text: str) -> str:
     """What the program answers to a source, a function added, so that it has a goal."""
     put(folder, {"a.c": text + "\nint goal(int x) { return x; }\n"})
-    return run(folder, ["fshell", "goals", "cover ID", "a.c"]).stderr.removeprefix("error ").split(" a.c")[0].strip()
+    return run(folder, ["goals", "cover ID", "a.c"]).stderr.removeprefix("error ").split(" a.c")[0].strip()
 
 
 def each_row_is_as_it_says(folder: str) -> Iterator[bool]:

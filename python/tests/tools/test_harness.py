@@ -1,4 +1,4 @@
-"""The cases of bin/harness: what its file prints as gcc and clang compile it, by hand and from docs/COMMANDS.md."""
+"""The cases of fshell harness: what its file prints as gcc and clang compile it, by hand and from docs/COMMANDS.md."""
 
 import os
 import re
@@ -258,7 +258,7 @@ def counted(folder: str, source: str) -> dict[int, int]:
 
 
 def gcc_counts_the_lines_of_the_source(folder: str) -> Iterator[bool]:
-    """They are what bin/lcov says, where both count a line."""
+    """They are what fshell lcov says, where both count a line."""
     put(folder, {"tri.c": example("triangle/tri.c"), "sides.txt": example("triangle/sides.txt")})
     run(folder, ["harness", "classify", "sides.txt", "tri.c", "-o", "tests.c"])
     theirs = counted(folder, "tri.c")

@@ -33,7 +33,7 @@ ROWS = [
     (["goals", 'cover "ID*', "fee.c"], "error 61 QuerySyntax query", "61 QuerySyntax: ", ["a quotation mark isn't closed"]),
     (["goals", "@LINE(3)", "fee.c"], "error 61 QuerySyntax query", "61 QuerySyntax: ", ["begins with `cover`"]),
     (["bounds", "f", "w.c", "--turns", "127"], "error 80 TooManyInstances limit 50000", "80 TooManyInstances: ",
-     ["`bin/explain 80 w.c --entry f --turns 127` says which loops and calls multiply"]),
+     ["`fshell explain 80 w.c --entry f --turns 127` says which loops and calls multiply"]),
     (["measure", "fee", "cover {days ==}", "in", "fee.c"], "error 65 PredicateSyntax query", "65 PredicateSyntax: ", ["the query has `{days ==}`"]),
 ]  # fmt: skip
 
@@ -68,7 +68,7 @@ def a_terminal_has_a_line_more(folder: str) -> Iterator[bool]:
         },
     )
     for words, line, begin, parts in ROWS:
-        ended = run(folder, ["fshell", *words])
+        ended = run(folder, [*words])
         yield (ended.stdout, ended.stderr) == ("", line + "\n")
         stdout, said, status = on_a_terminal(folder, words)
         lines = said.splitlines()
@@ -80,9 +80,9 @@ def a_terminal_has_a_line_more(folder: str) -> Iterator[bool]:
 
 def a_trace_file_of_another_system_is_told(folder: str) -> Iterator[bool]:
     put(folder, {"a.c": example("first/a.c"), "in.txt": example("first/in.txt")})
-    text = run(folder, ["fshell", "traces", "f", "in.txt", "a.c"]).stdout
+    text = run(folder, ["traces", "f", "in.txt", "a.c"]).stdout
     put(folder, {"own": text, "other": text.replace("\n", "\r\n")})
-    yield run(folder, ["fshell", "replay", "f", "cover ID", "other", "a.c"]).stderr == "error 55 TraceForm line 1\n"
+    yield run(folder, ["replay", "f", "cover ID", "other", "a.c"]).stderr == "error 55 TraceForm line 1\n"
     ended = run(folder, ["explain", "other", "a.c"])
     came = "it is a trace file that came through another system: its lines end with carriage return and line feed"
     yield (ended.returncode, ended.stdout, ended.stderr) == (2, "", f"explain: other: it is no report: {came}\n")

@@ -1,4 +1,4 @@
-"""The cases of bin/inputs, by hand from docs/FORMATS.md."""
+"""The cases of fshell inputs, by hand from docs/FORMATS.md."""
 
 import json
 import os
@@ -89,27 +89,27 @@ def least_inputs_are_measured(folder: str) -> Iterator[bool]:
     """The least inputs of two goals become one file, which covers them; and its traces are replayed."""
     put(folder, {"both.c": example("counting/both.c")})
     lines = [
-        run(folder, ["fshell", "least", "both", "cover EDGES(@STMTTYPE(RETURN))", goal, "both.c"]).stdout
+        run(folder, ["least", "both", "cover EDGES(@STMTTYPE(RETURN))", goal, "both.c"]).stdout
         for goal in "12"
     ]
     put(folder, {"least": "".join(lines)})
     yield run(folder, ["inputs", "least", "-o", "in"]).returncode == 0
-    measured = run(folder, ["fshell", "measure", "both", "cover EDGES(@STMTTYPE(RETURN))", "in", "both.c"]).stdout
+    measured = run(folder, ["measure", "both", "cover EDGES(@STMTTYPE(RETURN))", "in", "both.c"]).stdout
     yield measured.endswith("suite 1 2\ncovered 2 of 2\n")
     yield run(
         folder, ["inputs", "in", "--to", "traces", "--entry", "both", "--source", "both.c", "-o", "t"]
     ).returncode == 0
-    yield run(folder, ["fshell", "replay", "both", "cover EDGES(@STMTTYPE(RETURN))", "t", "both.c"]).stdout == measured
+    yield run(folder, ["replay", "both", "cover EDGES(@STMTTYPE(RETURN))", "t", "both.c"]).stdout == measured
 
 
 def made_inputs_are_measured(folder: str) -> Iterator[bool]:
     """What generate made, kept as a file, covers what generate says."""
     query = "cover @CONDITIONEDGE"
     put(folder, {"both.c": example("counting/both.c")})
-    made = run(folder, ["fshell", "generate", "both", query, "both.c"]).stdout
+    made = run(folder, ["generate", "both", query, "both.c"]).stdout
     put(folder, {"made": made})
     yield run(folder, ["inputs", "made", "-o", "in"]).returncode == 0
-    measured = run(folder, ["fshell", "measure", "both", query, "in", "both.c"]).stdout
+    measured = run(folder, ["measure", "both", query, "in", "both.c"]).stdout
     yield [line for line in measured.splitlines() if line.startswith("goal ")] == [
         line for line in made.splitlines() if line.startswith("goal ")
     ]
@@ -124,7 +124,7 @@ def keys_of_a_user_are_kept(folder: str) -> Iterator[bool]:
     yield ended.returncode == 0 and 'input 1: args 11 {"req": "TP-1", "by": ["a", 2]}\n' in ended.stdout
     with open(os.path.join(folder, "suite"), encoding="ascii") as file:
         yield json.loads(file.read())[:2] == given
-    put(folder, {"out": run(folder, ["fshell", "measure", "f", query, "in", "a.c"]).stdout})
+    put(folder, {"out": run(folder, ["measure", "f", query, "in", "a.c"]).stdout})
     yield '  input 2: args 5 {"req": "TP-2"}\n' in run(
         folder, ["explain", "out", "a.c", "--entry", "f", "--inputs", "in"]
     ).stdout
@@ -152,7 +152,7 @@ def what_is_no_file_is_written_into(folder: str) -> Iterator[bool]:
     pipe = os.path.join(folder, "pipe")
     os.mkfifo(pipe)
     with subprocess.Popen(
-        [os.path.join(environment.ROOT, "bin", "inputs"), "a", "-o", "pipe"], cwd=folder, stderr=subprocess.DEVNULL
+        [os.path.join(environment.ROOT, "bin", "fshell"), "inputs", "a", "-o", "pipe"], cwd=folder, stderr=subprocess.DEVNULL
     ) as tool:
         with open(pipe, encoding="ascii") as file:
             yield file.read() == "1\n"

@@ -1,4 +1,4 @@
-"""The cases of bin/install and bin/package: what they put under a folder works there, its manual pages are shown without a warning,
+"""The cases of fshell install and fshell package: what they put under a folder works there, its manual pages are shown without a warning,
 and completion and documents know each option that a tool has."""
 
 import os
@@ -8,11 +8,11 @@ import shutil
 import subprocess
 from collections.abc import Iterator
 
+from fshell_tools import cli, commands
 from tests import environment
 from tests.tools import Case, example, put, run
 
 COMMANDS = ["fshell-" + name for name in ("measure", "goals", "runs", "generate", "prove", "check", "bounds", "prove-bounds", "check-bounds", "least", "traces", "replay", "trees", "events", "graph", "sample")]  # fmt: skip
-TOOLS = ["fshell-" + name for name in ("inputs", "explain", "lcov", "harness", "campaign", "page", "mcdc", "order", "rte", "adapt", "driver", "project", "drat")]  # fmt: skip
 CASES = [
     Case("install: a folder that can't be made", ["install", "a/b"], {"a": "a file\n"}, 2, "", "install: a/b/bin: Not a directory\n"),
 ]  # fmt: skip
@@ -21,32 +21,31 @@ CASES = [
 def installed_tools_work(folder: str) -> Iterator[bool]:
     yield run(folder, ["install", "to"]).returncode == 0
     put(folder, {"both.c": example("counting/both.c")})
-    yield sorted(os.listdir(os.path.join(folder, "to", "bin"))) == sorted(["fshell", *TOOLS])
+    yield sorted(os.listdir(os.path.join(folder, "to", "bin"))) == ["fshell"]
     own = {name: value for name, value in os.environ.items() if name != "FSHELL"}
 
-    def installed(name: str, *words: str) -> subprocess.CompletedProcess[str]:
-        path = os.path.join(folder, "to", "bin", name)
+    def installed(*words: str) -> subprocess.CompletedProcess[str]:
+        path = os.path.join(folder, "to", "bin", "fshell")
         return subprocess.run([path, *words], cwd=folder, env=own, capture_output=True, text=True)
 
     query = "cover @LINE(9)"
-    made = installed("fshell", "generate", "--answers", "2", "both", query, "both.c")
+    made = installed("generate", "--answers", "2", "both", query, "both.c")
     yield made.stdout.endswith("covered 1 refuted 0 undecided 0 of 1\n")
     put(folder, {"made": made.stdout})
-    yield installed("fshell-inputs", "made").stdout == '[{"args": [1], "answers": [5, 9]}]\n'
-    yield all(installed(name, "--help").stdout.startswith("usage: ") for name in TOOLS)
-    yield installed("fshell", "--help").stdout.startswith("Commands:\n  fshell measure ")
-    yield installed(
-        "fshell", "--explain", "66"
-    ).stdout == "66 PredicateNowhere: a predicate is typable in no node's scope\n"
+    yield installed("inputs", "made").stdout == '[{"args": [1], "answers": [5, 9]}]\n'
+    yield all(installed(name, "--help").stdout.startswith(f"usage: fshell {name} ") for name in commands.TOOLS)
+    yield installed("--help").stdout.startswith("FShell tests ")
+    yield installed("--version").stdout.startswith("fshell 0.")
+    yield installed("--explain", "66").stdout == "66 PredicateNowhere: a predicate is typable in no node's scope\n"
     # (the documents that the help names)
     lib = os.path.join(folder, "to", "lib", "fshell")
     yield all(os.path.exists(os.path.join(lib, name)) for name in ("README.md", "docs/COMMANDS.md", "docs/REFUSALS.md"))
     # once more, over what is there
-    yield run(folder, ["install", "to"]).returncode == 0 and installed("fshell-inputs", "made").returncode == 0
+    yield run(folder, ["install", "to"]).returncode == 0 and installed("inputs", "made").returncode == 0
 
 
 def installed_adapt_has_its_models(folder: str) -> Iterator[bool]:
-    """What adapt writes by the models of string.h, and what it writes of checked operations, which bin/rte reads."""
+    """What adapt writes by the models of string.h, and what it writes of checked operations, which fshell rte reads."""
     prefix = os.path.join(folder, "usr")
     yield run(folder, ["install", prefix]).returncode == 0
     put(
@@ -56,14 +55,14 @@ def installed_adapt_has_its_models(folder: str) -> Iterator[bool]:
         },
     )
     made = subprocess.run(
-        [f"{prefix}/bin/fshell-adapt", "a.c", "-o", "ad", "--check-overflow"],
+        [f"{prefix}/bin/fshell", "adapt", "a.c", "-o", "ad", "--check-overflow"],
         cwd=folder,
         capture_output=True,
         text=True,
     )
     yield (made.returncode, made.stderr) == (0, "") and made.stdout.endswith("wrote ad/overflow.h ad/a.c\n")
     words = ["f", "ad/overflow.h", "ad/a.c", "-o", "d"]
-    ended = subprocess.run([f"{prefix}/bin/fshell-rte", *words], cwd=folder, capture_output=True, text=True)
+    ended = subprocess.run([f"{prefix}/bin/fshell", "rte", *words], cwd=folder, capture_output=True, text=True)
     yield ended.returncode == 1 and "\na.c:5:19: fails: overflow a[x & 3] - x: " in "\n" + ended.stdout
 
 
@@ -92,19 +91,16 @@ def options_of(text: str) -> set[str]:
 
 
 def helps(folder: str) -> Iterator[tuple[str, str]]:
-    """The help of each tool, and of each command of bin/project, behind its words."""
-    for name in TOOLS:
-        tool = name.removeprefix("fshell-")
-        yield name, run(folder, [tool, "--help"]).stdout
-        for command in ("init", "run", "report", "check") if tool == "project" else ():
-            yield f"{name} {command}", run(folder, [tool, command, "--help"]).stdout
+    """The help of each tool, by its name."""
+    for name in cli.TOOLS:
+        yield name, run(folder, [name, "--help"]).stdout
 
 
 def completion_knows_each_option(folder: str) -> Iterator[bool]:
     """Of each tool it offers what its help names, and no more."""
     run(folder, ["install", "to"])
     for name, text in helps(folder):
-        offered = {one for one in completed(folder, f"{name} -") if one.startswith("-")}
+        offered = {one for one in completed(folder, f"fshell {name} -") if one.startswith("-")}
         yield len(offered) >= 2 and offered == options_of(text)
 
 
@@ -116,42 +112,40 @@ def completion_knows_words(folder: str) -> Iterator[bool]:
     yield completed(folder, "fshell check --") == ["--turns", "--frames", "--answers", "--ends"]
     yield completed(folder, "fshell generate --ends ''") == ["returned", "trapped", "any"]
     yield completed(folder, "fshell generate --turns ''") == []
-    yield completed(folder, "fshell --") == ["--help", "--explain"]
+    yield completed(folder, "fshell --") == ["--help", "--version", "--explain"]
     yield completed(folder, "fshell measure f q b") == ["b.txt"]
-    yield completed(folder, "fshell-campaign --ssh") == ["--sshloginfile"]
-    yield sorted(completed(folder, "fshell-campaign -o ''")) == ["in", "to"]
-    yield completed(folder, "fshell-inputs --to n") == ["named"]
-    yield completed(folder, "fshell-project r") == ["run", "report"]
-    yield completed(folder, "fshell-project run --s") == ["--since", "--sshloginfile"]
-    # (the other names are links to the one script)
-    places = os.path.join(folder, "to/share/bash-completion/completions")
-    yield sorted(os.listdir(places)) == sorted(["fshell", *TOOLS]) and all(
-        os.path.isfile(os.path.join(places, name)) for name in TOOLS
-    )
+    yield completed(folder, "fshell campaign --ssh") == ["--sshloginfile"]
+    yield sorted(completed(folder, "fshell campaign -o ''")) == ["in", "to"]
+    yield completed(folder, "fshell inputs --to n") == ["named"]
+    yield completed(folder, "fshell r") == ["run", "report", "runs", "replay", "rte"]
+    yield completed(folder, "fshell run --s") == ["--since", "--sshloginfile"]
+    yield completed(folder, "fshell help camp") == ["campaign"]
+    for shell, path in (("zsh", "zsh/site-functions/_fshell"), ("fish", "fish/vendor_completions.d/fshell.fish")):
+        with open(os.path.join(folder, "to/share", path), encoding="utf-8") as file:
+            yield file.read() == run(folder, ["completion", shell]).stdout != ""
 
 
 def documents_and_pages_name_each_option(folder: str) -> Iterator[bool]:
     """docs/TOOLS.md, and each manual page with the statuses that the help tells."""
     run(folder, ["install", "to"])
     with open(os.path.join(environment.ROOT, "docs", "TOOLS.md"), encoding="utf-8") as file:
-        sections = dict(re.findall(r"^## bin/(\w+)\n(.*?)(?=^## |\Z)", file.read(), re.DOTALL | re.MULTILINE))
+        sections = dict(re.findall(r"^## fshell ([\w, ]+)\n(.*?)(?=^## |\Z)", file.read(), re.DOTALL | re.MULTILINE))
+    sections = {name: text for heading, text in sections.items() for name in heading.split(", ")}
     for name, text in helps(folder):
-        tool = name.removeprefix("fshell-").split()[0]
         long = {one for one in options_of(text) if one.startswith("--")} - {"--help"}
-        yield not [one for one in long if f"{one}" not in re.findall(r"--[a-z-]+", sections[tool])]
-        with open(os.path.join(folder, "to/share/man/man1", f"fshell-{tool}.1"), encoding="utf-8") as file:
+        yield not [one for one in long if f"{one}" not in re.findall(r"--[a-z-]+", sections[name])]
+        with open(os.path.join(folder, "to/share/man/man1", f"fshell-{name}.1"), encoding="utf-8") as file:
             page = file.read().replace("\\-", "-")
         yield not [one for one in options_of(text) if f"\\fB{one}" not in page and f", {one}\\fR" not in page]
-        if " " not in name:
-            told = text[text.index("exit status:") :]
-            statuses = re.findall(r"^  ([0-9])  (.+)$", told, re.MULTILINE)
-            yield [number for number, _ in statuses][:: len(statuses) - 1][0] == "0" and "2" in dict(statuses)
-            shown = page[page.index(".SH EXIT STATUS") : page.index(".SH ENVIRONMENT")]
-            yield re.findall(r"^\.TP\n([0-9])$", shown, re.MULTILINE) == [number for number, _ in statuses]
+        told = text[text.index("exit status:") :]
+        statuses = re.findall(r"^  ([0-9])  (.+)$", told, re.MULTILINE)
+        yield [number for number, _ in statuses][:: len(statuses) - 1][0] == "0" and "2" in dict(statuses)
+        shown = page[page.index(".SH EXIT STATUS") : page.index(".SH ENVIRONMENT")]
+        yield re.findall(r"^\.TP\n([0-9])$", shown, re.MULTILINE) == [number for number, _ in statuses]
 
 
 def packed(folder: str, *words: str) -> tuple[subprocess.CompletedProcess[str], str]:
-    """How bin/package ends, and the path of what it wrote."""
+    """How fshell package ends, and the path of what it wrote."""
     ended = run(folder, ["package", *words])
     return ended, os.path.join(folder, ended.stdout.strip())
 
@@ -172,9 +166,9 @@ def a_package_is_one_file_that_works(folder: str) -> Iterator[bool]:
     yield subprocess.run([*dpkg, "-i", path], capture_output=True, text=True).returncode == 0
     own = {name: value for name, value in os.environ.items() if name != "FSHELL"}
 
-    def installed(name: str, *words: str) -> subprocess.CompletedProcess[str]:
+    def installed(*words: str) -> subprocess.CompletedProcess[str]:
         return subprocess.run(
-            [os.path.join(root, "usr/bin", name), *words],
+            [os.path.join(root, "usr/bin/fshell"), *words],
             cwd=os.path.join(root, "module"),
             env=own,
             capture_output=True,
@@ -186,14 +180,12 @@ def a_package_is_one_file_that_works(folder: str) -> Iterator[bool]:
         os.path.join(root, "module"),
         ignore=shutil.ignore_patterns("fshell.out"),
     )
-    yield installed(
-        "fshell", "--explain", "66"
-    ).stdout == "66 PredicateNowhere: a predicate is typable in no node's scope\n"
-    yield all(installed(name, "--help").returncode == 0 for name in TOOLS)
-    yield installed("fshell-project", "run").stdout.endswith("requirement R-5: holds\nthe gate passes\n")
+    yield installed("--explain", "66").stdout == "66 PredicateNowhere: a predicate is typable in no node's scope\n"
+    yield all(installed(name, "--help").returncode == 0 for name in commands.TOOLS)
+    yield installed("run").stdout.endswith("requirement R-5: holds\nthe gate passes\n")
     # (documents and manual pages may be left out of a machine: nothing else needs them)
     shutil.rmtree(os.path.join(root, "usr/share"))
-    yield installed("fshell", "--help").stdout.startswith("Commands:\n  fshell measure ")
+    yield installed("--help").stdout.startswith("FShell tests ")
     yield subprocess.run([*dpkg, "-r", "fshell"], capture_output=True, text=True).returncode == 0
     yield [name for at, _, names in os.walk(os.path.join(root, "usr")) for name in names] == []
 
@@ -246,7 +238,7 @@ def needs_are_told(folder: str) -> Iterator[bool]:
 def manual_pages_are_shown(folder: str) -> Iterator[bool]:
     run(folder, ["install", "to"])
     pages = os.path.join(folder, "to", "share", "man", "man1")
-    yield sorted(os.listdir(pages)) == sorted(f"{name}.1" for name in ["fshell", *COMMANDS, *TOOLS])
+    yield sorted(os.listdir(pages)) == sorted(f"{name}.1" for name in [*COMMANDS, *(f"fshell-{name}" for name in cli.TOOLS)])
     for name in os.listdir(pages):
         words = ["man", "--warnings", "-l", os.path.join(pages, name)]
         shown = subprocess.run(

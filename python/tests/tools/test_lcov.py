@@ -1,4 +1,4 @@
-"""The cases of bin/lcov: counts by hand, genhtml's totals, and what is left out."""
+"""The cases of fshell lcov: counts by hand, genhtml's totals, and what is left out."""
 
 import os
 import re
@@ -171,7 +171,7 @@ def genhtml_has_these_totals(folder: str) -> Iterator[bool]:
 def what_may_be_reached_isnt_left_out(folder: str) -> Iterator[bool]:
     """Within four turns line 7 of the loop is refuted, and an input beyond them reaches it."""
     put(folder, {"count.c": example("counting/count.c"), "in": "0\n"})
-    report = run(folder, ["fshell", "generate", "count", "cover ID", "count.c", "--turns", "2"]).stdout
+    report = run(folder, ["generate", "count", "cover ID", "count.c", "--turns", "2"]).stdout
     put(folder, {"report": report})
     words = ["lcov", "count", "in", "count.c", "--refuted", "report", "-o", "out"]
     ended = run(folder, words)
@@ -198,7 +198,7 @@ def what_may_be_reached_isnt_left_out(folder: str) -> Iterator[bool]:
 
 def a_comment_is_read_by_genhtml(folder: str) -> Iterator[bool]:
     put(folder, {"count.c": example("counting/count.c"), "in": "0\n"})
-    put(folder, {"report": run(folder, ["fshell", "generate", "count", "cover ID", "count.c", "--turns", "2"]).stdout})
+    put(folder, {"report": run(folder, ["generate", "count", "cover ID", "count.c", "--turns", "2"]).stdout})
     yield "left out" in written(folder, {}, "count", "in", "count.c", "--refuted", "report", "--bounds-are-enough")[1]
     made = subprocess.run(
         ["genhtml", "--branch-coverage", "-o", "html", "out"], cwd=folder, capture_output=True, text=True

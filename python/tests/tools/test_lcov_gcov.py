@@ -1,4 +1,4 @@
-"""Lines of bin/lcov beside gcov, line by line: the examples, and ten modules that are written for it.
+"""Lines of fshell lcov beside gcov, line by line: the examples, and ten modules that are written for it.
 
 What differs is named in docs/TOOLS.md, and listed here by its reason; any other line has the same count in both.
 """
@@ -261,9 +261,9 @@ def ours(text: str) -> Counts:
 
 
 def both(folder: str, entry: str, name: str, others: Sequence[str] = ()) -> tuple[Counts, Counts, set[int]]:
-    """The counts of a source by bin/lcov and by gcc, of the inputs that are made for all of its steps."""
+    """The counts of a source by fshell lcov and by gcc, of the inputs that are made for all of its steps."""
     sources = [*others, name]
-    put(folder, {"made": run(folder, ["fshell", "generate", entry, "cover ID", *sources, "--budget", "300000"]).stdout})
+    put(folder, {"made": run(folder, ["generate", entry, "cover ID", *sources, "--budget", "300000"]).stdout})
     run(folder, ["inputs", "made", "-o", "in", "--to", "json"])
     run(folder, ["lcov", entry, "in", *sources, "-o", "out"])
     run(folder, ["harness", entry, "in", *sources, "-o", "tests.c"])

@@ -1,6 +1,6 @@
-"""Lines of bin/lcov beside gcov, line by line: examples/module and examples/modules, which bin/adapt brings into the profile.
+"""Lines of fshell lcov beside gcov, line by line: examples/module and examples/modules, which fshell adapt brings into the profile.
 
-bin/lcov counts what adapt wrote, every statement of which stands on its line of the original. So each line is compared with
+fshell lcov counts what adapt wrote, every statement of which stands on its line of the original. So each line is compared with
 gcc's count of what was written, and with its count of the original itself on the same inputs. The lines of DIFFER are those where adapt
 adds something of its own: the others that differ are those that docs/TOOLS.md names (test_lcov_gcov.py).
 """
@@ -56,7 +56,7 @@ def beside_gcov(
     made = run(folder, ["adapt", source, *words, "-o", "made"]).stdout.split("\n")[1].split()[1:]
     put(
         folder,
-        {"report": run(folder, ["fshell", "generate", entry, "cover ID", *made, *bounds, "--budget", "300000"]).stdout},
+        {"report": run(folder, ["generate", entry, "cover ID", *made, *bounds, "--budget", "300000"]).stdout},
     )
     run(folder, ["inputs", "report", "-o", "in.json", "--to", "json"])
     run(folder, ["lcov", entry, "in.json", *made, "-o", "out"])

@@ -1,4 +1,4 @@
-"""The cases of bin/mcdc: decisions that are worked out by hand, and random ones beside all their inputs."""
+"""The cases of fshell mcdc: decisions that are worked out by hand, and random ones beside all their inputs."""
 
 import json
 import os
@@ -199,9 +199,9 @@ def certificates_and_the_suite_are_written(folder: str) -> Iterator[bool]:
     yield ended.returncode == 0 and "; 2 certificates are checked\n" in ended.stdout
     query = goals_of(2).removeprefix("goals of: ")
     for goal in ("2", "3"):
-        checked = run(folder, ["fshell", "check", "f", query, goal, f"certs/decision1-goal{goal}.cert", "a.c"])
+        checked = run(folder, ["check", "f", query, goal, f"certs/decision1-goal{goal}.cert", "a.c"])
         yield checked.stdout == f"goal {goal} refuted turns 4 frames 8 answers 16\n"
-    yield run(folder, ["fshell", "runs", "f", "suite", "a.c"]).returncode == 0
+    yield run(folder, ["runs", "f", "suite", "a.c"]).returncode == 0
 
 
 def sixteen_conditions(folder: str) -> Iterator[bool]:

@@ -1,4 +1,4 @@
-"""The cases of bin/order: rows by C11, all orders by an interpreter of its own, and gcc and clang, which take different ones."""
+"""The cases of fshell order: rows by C11, all orders by an interpreter of its own, and gcc and clang, which take different ones."""
 
 import json
 import os

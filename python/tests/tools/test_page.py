@@ -1,4 +1,4 @@
-"""The cases of bin/page: what stands in the page, and what a browser shows of it."""
+"""The cases of fshell page: what stands in the page, and what a browser shows of it."""
 
 import html
 import json
@@ -150,7 +150,7 @@ WAYS = [(f"--window-size={width},900", f"--blink-settings=preferredColorScheme={
 def each_control_does_what_it_says(folder: str) -> Iterator[bool]:
     """Search, order, pages, the next open goal, a mark of several goals, keys, colours, folding and links that are sent."""
     put(folder, {"f.c": MANY, "in": "0\n"})
-    put(folder, {"made": run(folder, ["fshell", "measure", "f", QUERY, "in", "f.c"]).stdout})
+    put(folder, {"made": run(folder, ["measure", "f", QUERY, "in", "f.c"]).stdout})
     yield run(
         folder, ["page", "made", "-o", "page.html", "--source", "f.c", "--entry", "f", "--inputs", "in"]
     ).returncode == 0
@@ -184,7 +184,7 @@ FEE_INPUTS = '[{"args": [1, 2, 3], "answers": [], "req": "TP-1"}, {"args": [2000
 def made_of_fee(folder: str, *more: str) -> str:
     """The text of a page of two inputs of fee.c; the second one costs (9 + 30) * 2, which the assert on line 20 forbids."""
     put(folder, {"fee.c": example("criteria/fee.c"), "in": FEE_INPUTS})
-    put(folder, {"made": run(folder, ["fshell", "measure", "fee", QUERY, "in", "fee.c"]).stdout})
+    put(folder, {"made": run(folder, ["measure", "fee", QUERY, "in", "fee.c"]).stdout})
     put(folder, {"mcdc.json": run(folder, ["mcdc", "fee", "fee.c", "--json"]).stdout})
     run(folder, ["page", "made", *more, "-o", "page.html", "--source", "fee.c", "--entry", "fee", "--inputs", "in"])
     with open(os.path.join(folder, "page.html"), encoding="utf-8") as file:
@@ -259,7 +259,7 @@ def the_automaton_is_one_picture(folder: str) -> Iterator[bool]:
     """Two functions in one graph with the call between them; it is made larger and smaller, and its edges lead to goals."""
     source = "static int up(int x) {\n  if (x > 3) {\n    return 3;\n  }\n  return x + 1;\n}\nint f(int x) {\n  if (up(x) == 2) {\n    return 1;\n  }\n  return 0;\n}\n"
     put(folder, {"f.c": source})
-    put(folder, {"made": run(folder, ["fshell", "generate", "f", "cover ID", "f.c"]).stdout})
+    put(folder, {"made": run(folder, ["generate", "f", "cover ID", "f.c"]).stdout})
     run(folder, ["page", "made", "-o", "page.html", "--source", "f.c", "--entry", "f"])
     for way in WAYS[::3]:
         shown = browsed(folder, PICTURE, ("--dump-dom", "--virtual-time-budget=3000", *way))
@@ -279,7 +279,7 @@ def sources_have_colours(folder: str) -> Iterator[bool]:
     """Comments over lines, directives, words, types, numbers and strings, each in the part of a line between two marks."""
     source = "/* two\n   lines */\n#define A 3\ntypedef unsigned T; // end\nint f(int x) {\n  if (x == A && x != 'a') {\n    return 0x1F;\n  }\n  return x;\n}\n"
     put(folder, {"f.c": source.replace("typedef unsigned T; ", "")})
-    put(folder, {"made": run(folder, ["fshell", "generate", "f", QUERY, "f.c"]).stdout})
+    put(folder, {"made": run(folder, ["generate", "f", QUERY, "f.c"]).stdout})
     run(folder, ["page", "made", "-o", "page.html", "--source", "f.c", "--entry", "f"])
     with open(os.path.join(folder, "page.html"), encoding="utf-8") as file:
         text = file.read()
@@ -316,7 +316,7 @@ TIMES = """addEventListener("load", () => {
 def ten_thousand_goals_are_quick(folder: str) -> Iterator[bool]:
     """They load within 3 s and are filtered within 0.1 s; the best of three times, since other work may stand in the way."""
     put(folder, {"many.c": many(1249), "in": "0 9\n7 9\n"})
-    put(folder, {"made": run(folder, ["fshell", "measure", "all", QUERY, "in", "many.c"]).stdout})
+    put(folder, {"made": run(folder, ["measure", "all", QUERY, "in", "many.c"]).stdout})
     run(folder, ["page", "made", "-o", "page.html", "--source", "many.c", "--entry", "all", "--inputs", "in"])
     times = [json.loads(html.unescape(captured("<title>({.*?)</title>", browsed(folder, TIMES)))) for _ in range(3)]
     # (on a machine on which much else runs the clock says nothing of the page)
@@ -340,7 +340,7 @@ def what_isnt_known_isnt_said(folder: str) -> Iterator[bool]:
     put(folder, {"count.c": example("counting/count.c")})
     put(
         folder,
-        {"made": run(folder, ["fshell", "generate", "count", "cover @LINE(7)", "count.c", "--turns", "2"]).stdout},
+        {"made": run(folder, ["generate", "count", "cover @LINE(7)", "count.c", "--turns", "2"]).stdout},
     )
     ended = run(folder, ["page", "made", "-o", "two.html", "--source", "count.c", "--entry", "count"])
     yield ended.stdout == "two.html: 1 goals, 0 covered, 0 missed, 0 undecided, 1 refuted within the bounds, 0 unreachable\n"

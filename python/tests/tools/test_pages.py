@@ -133,13 +133,13 @@ def of_what_is_proved(folder: str) -> Iterator[bool]:
 def of_lists(folder: str) -> Iterator[bool]:
     """What a landing page names, and a tool that nobody tries."""
     page, of_commands, of_tools = (
-        "`runs`, `prove`, `check`, `bin/page`, `docs/A.md`\n",
+        "`runs`, `prove`, `check`, `fshell page`, `docs/A.md`\n",
         "## runs\n\n## prove and check\n",
-        "## bin/page\n",
+        "## fshell page\n",
     )
     given = (of_commands, of_tools, ["docs/A.md"])
-    yield readme_lists.faults(page, *given) == [] and readme_lists.without_cases(of_tools + "## bin/package\n") == []
-    for name in ("runs", "check", "bin/page", "docs/A.md"):
+    yield readme_lists.faults(page, *given) == [] and readme_lists.without_cases(of_tools + "## fshell package\n") == []
+    for name in ("runs", "check", "fshell page", "docs/A.md"):
         yield readme_lists.faults(page.replace(f"`{name}`", name), *given) == [f"it doesn't name `{name}`"]
     yield readme_lists.faults(page + "word " * 894, *given) == []
     yield len(readme_lists.faults(page + "word " * 895, *given)) == 1

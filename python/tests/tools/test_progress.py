@@ -136,7 +136,7 @@ def a_generate_over_many_goals_is_split_and_joined(folder: str) -> Iterator[bool
     is named hits its goal, as measure says."""
     put(folder, {"many.c": many(52)})
     whole = json.loads(
-        run(folder, ["fshell", "generate", "all", QUERY, "many.c", "--budget", "50000", "--json"]).stdout
+        run(folder, ["generate", "all", QUERY, "many.c", "--budget", "50000", "--json"]).stdout
     )
     yield len(whole["goals"]) == 416
     for name, jobs in (("one", "1"), ("two", "3")):
@@ -150,7 +150,7 @@ def a_generate_over_many_goals_is_split_and_joined(folder: str) -> Iterator[bool
     ]
     yield (made["covered"], made["refuted"], made["undecided"], made["bounds"]) == (364, 52, 0, whole["bounds"])
     put(folder, {"in.json": json.dumps(made["inputs"])})
-    measured = json.loads(run(folder, ["fshell", "measure", "all", QUERY, "in.json", "many.c", "--json"]).stdout)
+    measured = json.loads(run(folder, ["measure", "all", QUERY, "in.json", "many.c", "--json"]).stdout)
     yield [goal["answer"] == "covered" for goal in measured["goals"]] == [
         goal["answer"] == "covered" for goal in made["goals"]
     ]

@@ -1,4 +1,4 @@
-"""The cases of bin/project: what is wrong with its files, gates by hand, runs that are killed and go on, and sources that change."""
+"""The cases of fshell run: what is wrong with its files, gates by hand, runs that are killed and go on, and sources that change."""
 
 import json
 import os
@@ -20,10 +20,10 @@ ADAPTED = ("gcc", "pycparser", "jinja2")
 
 def refused(name: str, text: str, *lines: str, written: tuple[()] | None = ()) -> Case:
     """A case of a fshell.toml with what is told of it."""
-    told = "".join(f"project: fshell.toml{line}\n" for line in lines)
+    told = "".join(f"run: fshell.toml{line}\n" for line in lines)
     return Case(
         f"project: {name}",
-        ["project", "run"],
+        ["run"],
         {**LAMP, "fshell.toml": text},
         2,
         "",
@@ -35,7 +35,7 @@ def refused(name: str, text: str, *lines: str, written: tuple[()] | None = ()) -
 MODULE = '[module]\nsources = ["lamp.c"]\n'
 ENTRY = '[[entry]]\nfunction = "level"\nqueries = ["decisions"]\n'
 CASES = [
-    Case("project: no fshell.toml", ["project", "run"], LAMP, 2, "", "project: fshell.toml: No such file or directory\n"),
+    Case("project: no fshell.toml", ["run"], LAMP, 2, "", "run: fshell.toml: No such file or directory\n"),
     refused("no TOML", "[module\n", ": it is no TOML: Expected ']' at the end of a table declaration (at line 1, column 8)"),
     refused("an unknown key", MODULE + 'source = ["x.c"]\n' + ENTRY, ":3: [module] knows no key source; is sources meant?"),
     refused("an unknown table", MODULE + ENTRY + "[gates]\n", ":6: the file knows no key gates; is gate meant?"),
@@ -49,20 +49,20 @@ CASES = [
     refused("no entry, and no module", "[gate]\nmcdc = 50\n", ":1: it has no [module]", ":1: it has no [[entry]]"),
     refused("an entry twice", MODULE + ENTRY + ENTRY, ":7: the entry level stands at line 3 already"),
     refused("an entry that no source defines", MODULE + ENTRY.replace("level", "levels"), ":3: no source defines the function levels", written=None),
-    Case("project: a source that is refused and not adapted", ["project", "run"],
+    Case("project: a source that is refused and not adapted", ["run"],
          {"fshell.toml": '[module]\nsources = ["a.c"]\nadapt = "never"\n' + ENTRY, "a.c": "float f;\n"}, 2, "",
-         "project: fshell graph: error 21 OutOfProfile a.c:1\n", written=None),
-    Case("project: a work folder that can't be made", ["project", "run", "-o", "lamp.c/x"], {**LAMP, "fshell.toml": TOML}, 2, "", None),
-    Case("project: init doesn't write over a file", ["project", "init", "lamp.c"], {**LAMP, "fshell.toml": "mine\n"}, 2, "",
-         "project: fshell.toml is there already; move it away, or name another one (-o)\n"),
-    Case("project: init of a source that isn't there", ["project", "init", "no.c"], LAMP, 2, "", None),
-    Case("project: init with a criterion that isn't one", ["project", "init", "lamp.c", "--query", "all"], LAMP, 2, "", None),
+         "run: fshell graph: error 21 OutOfProfile a.c:1\n", written=None),
+    Case("project: a work folder that can't be made", ["run", "-o", "lamp.c/x"], {**LAMP, "fshell.toml": TOML}, 2, "", None),
+    Case("project: init doesn't write over a file", ["init", "lamp.c"], {**LAMP, "fshell.toml": "mine\n"}, 2, "",
+         "init: fshell.toml is there already; move it away, or name another one (-o)\n"),
+    Case("project: init of a source that isn't there", ["init", "no.c"], LAMP, 2, "", None),
+    Case("project: init with a criterion that isn't one", ["init", "lamp.c", "--query", "all"], LAMP, 2, "", None),
 ]  # fmt: skip
 
 
 def project(folder: str, *words: str, **more: Any) -> subprocess.CompletedProcess[str]:
-    """How bin/project ends in a folder."""
-    return run(folder, ["project", *words], **more)
+    """How fshell run ends in a folder."""
+    return run(folder, list(words), **more)
 
 
 def report(folder: str, name: str = "report.json") -> Any:
@@ -95,7 +95,7 @@ def a_module_is_judged(folder: str) -> Iterator[bool]:
     """By hand: level has two decisions, so four goals; press has i < times and i < 3 (three decision edges) and the if (two)."""
     put(folder, {**LAMP, "fshell.toml": TOML, "tests.json": TESTS})
     env = counted(folder)
-    before = project(folder, "check", env=env)
+    before = project(folder, "gate", env=env)
     yield before.returncode == 1 and "not done yet: level, bounds\n" in before.stdout
     ended = project(folder, "run", env=env)
     yield (ended.returncode, ended.stdout) == (0, RUN)
@@ -106,14 +106,14 @@ def a_module_is_judged(folder: str) -> Iterator[bool]:
     now = resource.getrusage(resource.RUSAGE_CHILDREN)
     yield (again.returncode, again.stdout, starts(folder)) == (0, RUN, [])
     yield now.ru_utime + now.ru_stime - used.ru_utime - used.ru_stime < 2
-    yield project(folder, "check", env=env).stdout == RUN
+    yield project(folder, "gate", env=env).stdout == RUN
     # a file of a task that was changed by hand isn't believed
     path = os.path.join(folder, DIRECTORY, "tasks", "press", "decisions", "report.json")
     with open(path, encoding="utf-8") as file:
         text = file.read()
     with open(path, "w", encoding="utf-8") as file:
         file.write(text.replace('"covered"', '"unreachable"', 1))
-    yield project(folder, "check", env=env).stdout.startswith("not done yet: press, decisions\n")
+    yield project(folder, "gate", env=env).stdout.startswith("not done yet: press, decisions\n")
     yield project(folder, "run", env=env).stdout == RUN
 
 
@@ -136,7 +136,7 @@ def keys_go_to_every_report(folder: str) -> Iterator[bool]:
     yield [rows[name]["state"] for name in ("R-1", "R-2", "R-3")] == ["tested", "shown", "holds"]
     yield rows["R-1"]["tests"] == ["TC-1"] and len(rows["R-3"]["certificates"]) == 1
     certificate = os.path.join(folder, DIRECTORY, rows["R-3"]["certificates"][0])
-    words = ["fshell", "check", "press", "cover {lamp > 1}", "1", certificate, "lamp.c"]
+    words = ["gate", "press", "cover {lamp > 1}", "1", certificate, "lamp.c"]
     yield run(folder, words).stdout == "goal 1 refuted turns 4 frames 8 answers 16\n"
 
 
@@ -184,7 +184,7 @@ def the_gate_fails(folder: str) -> Iterator[bool]:
 
 
 def names_that_are_wrong_are_told(folder: str) -> Iterator[bool]:
-    """The line of each, behind `project: tests.json: `."""
+    """The line of each, behind `run: tests.json: `."""
     told = {
         '[{"arguments": {"time": 1}}]': "input 1: time is no parameter of press(int times)",
         '[{"arguments": {}}]': "input 1: the argument times is missing; the entry is press(int times)",
@@ -197,11 +197,11 @@ def names_that_are_wrong_are_told(folder: str) -> Iterator[bool]:
     for text, line in told.items():
         put(folder, {**LAMP, "fshell.toml": TOML, "tests.json": text})
         ended = project(folder, "run")
-        yield (ended.returncode, ended.stderr) == (2, f"project: tests.json: {line}\n")
+        yield (ended.returncode, ended.stderr) == (2, f"run: tests.json: {line}\n")
     put(folder, {"tests.json": '[{"requirements": ["R-9"], "args": [1]}]'})
     yield project(
         folder, "run"
-    ).stderr == "project: fshell.toml: an input of press names the requirement R-9, which isn't there\n"
+    ).stderr == "run: fshell.toml: an input of press names the requirement R-9, which isn't there\n"
 
 
 def what_changed_since(folder: str) -> Iterator[bool]:
@@ -236,7 +236,7 @@ def stopped_at_twenty_moments(folder: str) -> Iterator[bool]:
         ignore=shutil.ignore_patterns(DIRECTORY),
     )
     one = os.path.join(folder, "one")
-    words = [os.path.join(environment.ROOT, "bin", "project"), "run"]
+    words = [os.path.join(environment.ROOT, "bin", "fshell"), "run"]
     status = None
     for moment in range(20):
         started = subprocess.Popen(
@@ -297,7 +297,7 @@ def entries_are_done_apart(folder: str) -> Iterator[bool]:
     put(folder, {**LAMP, "fshell.toml": TOML, "tests.json": TESTS})
     env = counted(folder)
     ended = project(folder, "run", "--entry", "lamp", env=env)
-    yield (ended.returncode, ended.stderr) == (2, "project: fshell.toml has no entry lamp; it has level, press\n")
+    yield (ended.returncode, ended.stderr) == (2, "run: fshell.toml has no entry lamp; it has level, press\n")
     path = os.path.join(environment.ROOT, "bin", "project")
     side = [
         subprocess.Popen([path, "run", "--entry", name], cwd=folder, env=env, stdout=subprocess.PIPE, text=True)
@@ -334,7 +334,7 @@ def other_machines_find_the_same(folder: str) -> Iterator[bool]:
     )
     one, two = os.path.join(folder, "one"), os.path.join(folder, "two")
     ended = project(two, "run", "--sshloginfile", "nowhere")
-    yield (ended.returncode, ended.stderr) == (2, "project: nowhere: No such file or directory\n")
+    yield (ended.returncode, ended.stderr) == (2, "run: nowhere: No such file or directory\n")
     yield project(one, "run").returncode == project(two, "run", "--sshloginfile", "machines").returncode == 0
     found = [[(goal["text"], goal["verdict"]) for goal in report(at)["goals"]] for at in (one, two)]
     yield found[0] == found[1] and len(found[0]) == 8
@@ -381,7 +381,7 @@ def the_example_goes_to_its_gate(folder: str) -> Iterator[bool]:
     )
     yield (made.returncode, made.stdout) == (0, "made.toml: 7 entries for 8 functions\n")
     with open(os.path.join(module, "made.toml"), encoding="utf-8") as file:
-        yield "# count_hot: zones is an array, which no input has; bin/driver count_hot alarm.c -o drive_count_hot.c writes a caller\n" in file.read()
+        yield "# count_hot: zones is an array, which no input has; fshell driver count_hot alarm.c -o drive_count_hot.c writes a caller\n" in file.read()
 
 
 def reports_for_other_tools_have_their_forms(folder: str) -> Iterator[bool]:

@@ -103,7 +103,7 @@ def servers(folder: str) -> Iterator[bool]:
 
     text = code["Jenkins"]
     commands = re.findall(r"sh '([^']*)'", text)
-    yield commands == ["fshell-project run"] and ended(commands[0], env, module).returncode == 0
+    yield commands == ["fshell run"] and ended(commands[0], env, module).returncode == 0
     patterns = re.findall(r"(?:pattern:|junit) '([^']*)'", text)
     folder_of = captured(r"reportDir: '([^']*)', reportFiles: '[^']*'", text)
     page = captured(r"reportDir: '[^']*', reportFiles: '([^']*)'", text)

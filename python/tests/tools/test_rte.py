@@ -1,4 +1,4 @@
-"""The cases of bin/rte: planted faults that C11 and gcc's sanitizer name too, a module that has none, and which operation is which."""
+"""The cases of fshell rte: planted faults that C11 and gcc's sanitizer name too, a module that has none, and which operation is which."""
 
 import itertools
 import json

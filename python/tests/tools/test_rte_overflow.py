@@ -1,4 +1,4 @@
-"""The cases of bin/adapt --check-overflow and --check-conversions with bin/rte: what is written of each form and where its operator
+"""The cases of fshell adapt --check-overflow and --check-conversions with fshell rte: what is written of each form and where its operator
 stands, the modules of examples/rte with the verdicts that their comments say, which gcc's sanitizers confirm and certificates show, and
 what is made of the rows: SARIF, a page, a C file that repeats failures."""
 
@@ -215,7 +215,7 @@ def a_broken_table_is_told(folder: str) -> Iterator[bool]:
         yield (ended.returncode, ended.stdout, ended.stderr) == (
             2,
             "",
-            "rte: ad/overflow.json isn't what bin/adapt wrote\n",
+            "rte: ad/overflow.json isn't what fshell adapt wrote\n",
         )
     # without the table the asserts of the header are rows
     os.remove(os.path.join(folder, "ad", "overflow.json"))
@@ -376,7 +376,7 @@ def a_page_has_each_row(folder: str) -> Iterator[bool]:
         yield said.returncode == 0
     yield len(commands) == 3
     ended = run(folder, ["page", "d", "d", "-o", "q.html"])
-    yield (ended.returncode, ended.stderr) == (2, "page: a folder of bin/rte is a page of its own\n")
+    yield (ended.returncode, ended.stderr) == (2, "page: a folder of fshell rte is a page of its own\n")
     put(folder, {"d/rte.json": "{}"})
     ended = run(folder, ["page", "d", "-o", "q.html"])
     yield (ended.returncode, ended.stderr) == (2, "page: d has no whole rte.json\n")
@@ -403,7 +403,7 @@ def a_stopped_run_goes_on(folder: str) -> Iterator[bool]:
     put(folder, {"gauge.c": example("rte/gauge.c")})
     whole = run(folder, ["rte", "gauge", "gauge.c", "-o", "whole"]).stdout.replace("whole/", "d/")
     for seconds in (0.3, 0.8):
-        command = [os.path.join(environment.ROOT, "bin", "rte"), "gauge", "gauge.c", "-o", "d", "--jobs", "2"]
+        command = [os.path.join(environment.ROOT, "bin", "fshell"), "rte", "gauge", "gauge.c", "-o", "d", "--jobs", "2"]
         try:
             subprocess.run(command, cwd=folder, capture_output=True, timeout=seconds)
         except subprocess.TimeoutExpired:

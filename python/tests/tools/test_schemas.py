@@ -27,10 +27,10 @@ def a_module(folder: str) -> Iterator[bool]:
     """The report's folder of a module whose gate fails, with findings and a lost goal; names have marks of XML and bytes above 127."""
     toml = TOML.replace("at-least = 100", "at-least = 100\nno-run-time-errors = true")
     put(folder, {**LAMP, "fshell.toml": toml, "tests.json": TESTS.replace("TC-1", 'ä<&\\"')})
-    run(folder, ["project", "run"])
+    run(folder, ["run"])
     os.rename(os.path.join(folder, DIRECTORY, "report"), os.path.join(folder, "before"))
     put(folder, {"lamp.c": LAMP["lamp.c"].replace("return 9;", "return 90 / (wanted - 10);")})
-    yield run(folder, ["project", "run", "--since", "before"]).returncode == 1
+    yield run(folder, ["run", "--since", "before"]).returncode == 1
 
 
 def at(folder: str, name: str) -> str:

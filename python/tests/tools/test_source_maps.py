@@ -1,4 +1,4 @@
-"""The cases of the map beside what bin/adapt writes: every report shows the user's own files, lines, texts and names."""
+"""The cases of the map beside what fshell adapt writes: every report shows the user's own files, lines, texts and names."""
 
 import json
 import os
@@ -56,13 +56,13 @@ NEEDS = ("gcc", "pycparser")
 
 
 def adapted(folder: str, files: dict[str, str] = FILES, source: str = "src/tank.c") -> list[str]:
-    """The sources that bin/adapt writes, in the program's order."""
+    """The sources that fshell adapt writes, in the program's order."""
     put(folder, files)
     return run(folder, ["adapt", source, "-o", "made"]).stdout.splitlines()[-1].split()[1:]
 
 
 def guards(told: str) -> list[tuple[str, str]]:
-    """The line and the text of each guard of truth that bin/explain tells, in their order."""
+    """The line and the text of each guard of truth that fshell explain tells, in their order."""
     return re.findall(r"^  e\d+ \S+?:(\d+):\d+ \w+: (.*?) is true(?:, in|$)", told, re.MULTILINE)
 
 
@@ -105,7 +105,7 @@ def each_report_names_the_original(folder: str) -> Iterator[bool]:
     yield "src/tank.c:14:7 step: if (rate > LIMIT)" in told and "condition 1: sensor() > tank.level: " in told and "made/" not in told
     text = run(folder, ["harness", "step", "in.json", *sources]).stdout
     yield '#line 1 "src/tank.c"' in text
-    put(folder, {"report": run(folder, ["fshell", "generate", "step", QUERY, *sources]).stdout})
+    put(folder, {"report": run(folder, ["generate", "step", QUERY, *sources]).stdout})
     shown = [word for name in sources for word in ("--source", name)]
     yield run(folder, ["page", "report", "-o", "page.html", *shown, "--entry", "step"]).returncode == 0
     with open(os.path.join(folder, "page.html"), encoding="utf-8") as file:
@@ -123,7 +123,7 @@ def bounds_and_orders_name_the_original(folder: str) -> Iterator[bool]:
         "int f(int x) {\n  while (in() > x)\n    box.n += x;\n  return box.n;\n}\n"
     )
     sources = adapted(folder, {"box.c": source}, "box.c")
-    put(folder, {"report": run(folder, ["fshell", "generate", "f", "cover @LINE(7)", *sources, "--turns", "0"]).stdout})
+    put(folder, {"report": run(folder, ["generate", "f", "cover @LINE(7)", *sources, "--turns", "0"]).stdout})
     told = run(folder, ["explain", "report", *sources, "--entry", "f"]).stdout
     yield "turn 1 of the loop at box.c:6, by" in told and "made/" not in told
     for name in ("can.c", "can.h"):
@@ -151,7 +151,7 @@ def a_bad_map_is_told_in_a_line(folder: str) -> Iterator[bool]:
     with open(path, encoding="utf-8") as file:
         text = file.read()
     value = json.loads(text)
-    rest = "; run bin/adapt again, or take the map away\n"
+    rest = "; run fshell adapt again, or take the map away\n"
 
     def ended() -> tuple[int, str, str]:
         told = run(folder, ["explain", QUERY, *sources])
@@ -272,7 +272,7 @@ def the_project_reports_the_original(folder: str) -> Iterator[bool]:
         os.path.join(folder, "m"),
         ignore=shutil.ignore_patterns("fshell.out"),
     )
-    yield run(os.path.join(folder, "m"), ["project", "run"]).returncode == 0
+    yield run(os.path.join(folder, "m"), ["run"]).returncode == 0
     out = os.path.join(folder, "m", "fshell.out", "report")
     with open(os.path.join(out, "report.json"), encoding="utf-8") as file:
         value = json.load(file)

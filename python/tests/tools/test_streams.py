@@ -74,7 +74,7 @@ def closed_input(folder: str) -> Iterator[bool]:
 def another_encoding(folder: str) -> Iterator[bool]:
     """The names of files are UTF-8 whatever the locale says."""
     put(folder, {"ü.c": FILES["never.c"]})
-    told = subprocess.run([os.path.join(environment.ROOT, "bin", "explain"), "cover @LINE(5)", "ü.c"], cwd=folder,
+    told = subprocess.run([os.path.join(environment.ROOT, "bin", "fshell"), "explain", "cover @LINE(5)", "ü.c"], cwd=folder,
                           env={**os.environ, "PYTHONIOENCODING": "ascii"}, capture_output=True)  # fmt: skip
     yield (told.returncode, told.stdout.decode(), told.stderr) == (
         0,

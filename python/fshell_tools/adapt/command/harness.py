@@ -77,7 +77,7 @@ def text_of(writer: Writer, made: list[str], entry: str, given: str, folder: str
         words="".join(f"{harness.word(number)}, " for one in read for number in (*one.args, *one.answers)),
         tests="".join(harness.tests(entry, read, runs)), runner=FORK.format(),
     )  # fmt: skip
-    head = HEAD.format(by="bin/adapt --harness", count=len(read), entry=entry)
+    head = HEAD.format(by="fshell adapt --harness", count=len(read), entry=entry)
     heads = "".join(answered(writer, one, home) for one in undefined(writer))
     named = harness.literal(os.path.relpath(os.path.realpath(home), os.path.realpath(folder)))
     return f"{head}\n#include {named}\n{heads}#undef main\n{text}", home

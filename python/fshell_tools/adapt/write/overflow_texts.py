@@ -4,7 +4,7 @@ the product of two `long` is the exception."""
 
 from fshell_tools.adapt.common.c_types import Int
 
-HEAD = """/* Written by bin/adapt: signed operations that can overflow, and conversions that may lose a value. Each is a call of one of
+HEAD = """/* Written by fshell adapt: signed operations that can overflow, and conversions that may lose a value. Each is a call of one of
    these functions, which asserts that C gives it a value (C11 6.5p5), and then does what the profile does. */
 """
 INT, LONG = "2147483647", "9223372036854775807"

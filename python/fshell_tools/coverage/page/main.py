@@ -1,7 +1,7 @@
-"""bin/page: shows reports as one HTML file: the sources with a mark at each goal, and what each goal is.
+"""fshell page: shows reports as one HTML file: the sources with a mark at each goal, and what each goal is.
 
 A REPORT is a report of `measure` or `generate` (text or JSON), one of `mcdc` as JSON, of which each condition is a goal, or the
-folder of a campaign; the last two have all that is needed. The folder of bin/rte is a page of its own. For a report the sources are named by --source; with --entry the page also has the paths of its inputs (--inputs for a report of
+folder of a campaign; the last two have all that is needed. The folder of fshell rte is a page of its own. For a report the sources are named by --source; with --entry the page also has the paths of its inputs (--inputs for a report of
 `measure`), and says whether a refuted goal is unreachable, by `bounds`; with --query it has the commands that write and check the
 certificate of a refuted goal.
 """
@@ -55,7 +55,7 @@ def page_text(page: Page) -> str:
 
 
 def parser_of_words() -> argument_parsers.Parser:
-    """What reads the words of bin/page; a wrong word ends the tool with status 2."""
+    """What reads the words of fshell page; a wrong word ends the tool with status 2."""
     parser = argument_parsers.parser("page", __doc__, "the page is written")
     parser.add_argument("reports", nargs="+", metavar="REPORT", help="a report, or a campaign's folder")
     parser.add_argument("-o", metavar="FILE", dest="out", required=True, help="the page that is written")
@@ -89,7 +89,7 @@ def main() -> int:
     given = words()
     if any(rte.is_folder(name) for name in given.reports):
         if len(given.reports) > 1:
-            raise Failure("a folder of bin/rte is a page of its own")
+            raise Failure("a folder of fshell rte is a page of its own")
         return rte.write(given.reports[0], given.out)
     queries = given.query or [""] * len(given.reports)
     reports = [shown(name, query, given) for name, query in zip(given.reports, queries)]

@@ -1,4 +1,4 @@
-"""The page of a folder of bin/rte: each operation with its verdict, and the sources with a mark at each."""
+"""The page of a folder of fshell rte: each operation with its verdict, and the sources with a mark at each."""
 
 import json
 import os
@@ -64,7 +64,7 @@ class File:
 
 
 class Page:
-    """What the page shows of a folder of bin/rte. Raises Failure where its rte.json isn't there or isn't whole, or a
+    """What the page shows of a folder of fshell rte. Raises Failure where its rte.json isn't there or isn't whole, or a
     source can't be read."""
 
     def __init__(self, folder: str) -> None:
@@ -81,13 +81,13 @@ class Page:
             raise Failure(f"{folder} has no whole rte.json") from None
 
     def originals(self) -> list[str]:
-        """The files of operations that stand in no source, where they are there: those that bin/adapt read."""
+        """The files of operations that stand in no source, where they are there: those that fshell adapt read."""
         files = [row["place"].split(":")[0] for row in self.value["rows"]]
         here = [name for name in dict.fromkeys(files) if name not in self.value["sources"]]
         return [name for name in here if os.path.exists(os.path.join(self.asked["place"], name))]
 
     def files_of(self, names: list[str]) -> list[File]:
-        """The sources of these names; of those that bin/adapt wrote the header of checked operations is left out.
+        """The sources of these names; of those that fshell adapt wrote the header of checked operations is left out.
         Raises Failure where one can't be read."""
         header = checked_calls.header_of(self.value["sources"])
         made = []
@@ -98,7 +98,7 @@ class Page:
         return [one for one in made if one.name != header]
 
     def is_written(self, file: File) -> bool:
-        """Whether bin/adapt wrote a file, and no row stands there, since the originals are shown."""
+        """Whether fshell adapt wrote a file, and no row stands there, since the originals are shown."""
         beside = os.path.join(self.asked["place"], os.path.dirname(file.name), source_map.NAME)
         return os.path.exists(beside) and not any(line.rows for line in file.lines)
 
@@ -170,7 +170,7 @@ class Page:
 
 
 def is_folder(name: str) -> bool:
-    """Whether a folder is one of bin/rte: it has a file rte.json."""
+    """Whether a folder is one of fshell rte: it has a file rte.json."""
     return os.path.exists(os.path.join(name, "rte.json"))
 
 

@@ -73,7 +73,7 @@ def path_row(path: dict[str, Any]) -> tuple[list[str], str, str]:
 
 
 def decisions(page: Page) -> list[Decision]:
-    """The tables of the reports that bin/mcdc wrote as JSON, which were read before (python/fshell_tools/coverage/page/report_context.py)."""
+    """The tables of the reports that fshell mcdc wrote as JSON, which were read before (python/fshell_tools/coverage/page/report_context.py)."""
     found: list[Decision] = []
     for number, one in enumerate(page.reports):
         value = mcdc_value(one)
@@ -92,7 +92,7 @@ def decisions(page: Page) -> list[Decision]:
 
 
 def mcdc_value(one: Shown) -> dict[str, Any]:
-    """The JSON of a report of bin/mcdc; an empty object of other reports, and where it can't be read."""
+    """The JSON of a report of fshell mcdc; an empty object of other reports, and where it can't be read."""
     if one.folder:
         return {}
     try:

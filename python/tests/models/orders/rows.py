@@ -1,4 +1,4 @@
-"""Small programs, and what bin/order must tell of each by C11: the classes, or nothing.
+"""Small programs, and what fshell order must tell of each by C11: the classes, or nothing.
 
 g is 1 and h sets it to 5, in most; k is the entry. Each is also run by all orders: where a class is told there are several
 outcomes, and else one (`TWO_OUTCOMES_AT` are the arguments that are tried).

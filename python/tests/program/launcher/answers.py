@@ -1,11 +1,13 @@
 """What bin/fshell answers itself: its help, and what a refusal means."""
 
+import hashlib
 import os
 import re
 import shutil
 import subprocess
 from collections.abc import Iterator
 
+from fshell_tools import commands
 from tests import environment
 from tests.program.launcher.tree import Tree
 
@@ -23,13 +25,47 @@ def with_documents(tree: Tree) -> None:
         shutil.copy(os.path.join(environment.ROOT, name), tree.path(name))
 
 
-def help_needs_no_program(tree: Tree) -> Iterator[bool]:
+def with_tools(tree: Tree) -> None:
+    """Puts the documents and the Python package beside the scripts."""
     with_documents(tree)
-    ran = tree.call(tree.path("bin/fshell"), "--help")
-    yield ran.returncode == 0 and ran.stderr == "" and tree.calls() == []
-    yield "  fshell goals QUERY SOURCE...\n" in ran.stdout and "  --frames (1 to 64; default 8)\n" in ran.stdout
-    yield "docs/QUERY.md" in ran.stdout
+    hidden = shutil.ignore_patterns("tests", "__pycache__")
+    shutil.copytree(environment.TOOLS, tree.path("python"), ignore=hidden)
+
+
+def help_needs_no_program(tree: Tree) -> Iterator[bool]:
+    with_tools(tree)
+    for words in (["--help"], ["help"], []):
+        ran = tree.call(tree.path("bin/fshell"), *words)
+        yield ran.returncode == 0 and ran.stderr == "" and tree.calls() == []
+        yield [name for name in commands.ALL if not re.search(rf"^  {name} +\w", ran.stdout, re.MULTILINE)] == []
+    ran = tree.call(tree.path("bin/fshell"), "help", "generate")
+    yield "usage: fshell generate ENTRY QUERY SOURCE... " in ran.stdout and "(1 to 64; default 8)\n" in ran.stdout
+    yield tree.call(tree.path("bin/fshell"), "help", "lcov").stdout.startswith("usage: fshell lcov ")
     yield tree.call(tree.path("bin/fshell"), "--help", "goals").stdout == "one --help goals\n"
+
+
+def words_are_dispatched(tree: Tree) -> Iterator[bool]:
+    """Each tool of the table is one for the launcher too, and each other word goes to the program."""
+    tree.write("python/__main__.py", "import sys\nprint('a tool:', *sys.argv[1:])\n")
+    for name, command in commands.ALL.items():
+        due = "a tool: " if command.module else "one "
+        yield tree.call(tree.path("bin/fshell"), name, "a b").stdout == f"{due}{name} a b\n"
+    for name in ("hlep", "project", "help a b", "Init", "--version a"):
+        yield tree.call(tree.path("bin/fshell"), *name.split()).stdout == f"one {name}\n"
+
+
+def the_program_is_named(tree: Tree) -> Iterator[bool]:
+    """`fshell --version` tells the sums, and whether the program is the released one."""
+    with_tools(tree)
+    tree.run()
+    path = tree.path("crates/fshell/out/fshell")
+    with open(path, "rb") as file:
+        own = hashlib.sha256(file.read()).hexdigest()
+    ran = tree.call(tree.path("bin/fshell"), "--version")
+    yield ran.stdout.splitlines()[1:] == [f"program {own} {path}", "this program isn't the released one"]
+    tree.call(tree.path("bin/release"))
+    lines = tree.call(tree.path("bin/fshell"), "--version").stdout.splitlines()
+    yield lines[1] == f"program {own} {path}" and lines[2].startswith("kit ") and lines[3].startswith("sources ")
 
 
 def refusals_are_explained(tree: Tree) -> Iterator[bool]:
@@ -49,12 +85,11 @@ def refusals_are_explained(tree: Tree) -> Iterator[bool]:
 
 
 def answers_of_the_launcher_on_a_full_device(tree: Tree) -> Iterator[bool]:
-    with_documents(tree)
-    for words in (["--help"], ["--explain", "66"]):
+    with_tools(tree)
+    for words, due in ((["--help"], 2), (["--explain", "66"], 8)):
         with open("/dev/full", "wb") as full:
-            yield subprocess.run(
-                [tree.path("bin/fshell"), *words], stdout=full, stderr=subprocess.DEVNULL
-            ).returncode == 8
+            ended = subprocess.run([tree.path("bin/fshell"), *words], stdout=full, stderr=subprocess.DEVNULL)
+            yield ended.returncode == due
 
 
-CASES = [help_needs_no_program, refusals_are_explained, answers_of_the_launcher_on_a_full_device]
+CASES = [help_needs_no_program, words_are_dispatched, the_program_is_named, refusals_are_explained, answers_of_the_launcher_on_a_full_device]

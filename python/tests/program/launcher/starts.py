@@ -79,7 +79,7 @@ def stack_grows_to_its_limit(tree: Tree) -> Iterator[bool]:
     tree.write("crates/fshell/out/fshell", "#!/bin/sh\nulimit -S -s\n")
     tree.set_time("crates/fshell/out/fshell", 5)
     for hard, soft in (("65536", "65536\n"), ("2097152", "1048576\n")):
-        ran = tree.call("/bin/sh", "-c", 'ulimit -H -s "$1" && exec "$2"', "sh", hard, tree.path("bin/fshell"))
+        ran = tree.call("/bin/sh", "-c", 'ulimit -H -s "$1" && exec "$2" goals', "sh", hard, tree.path("bin/fshell"))
         yield (ran.returncode, ran.stdout, ran.stderr) == (0, soft, "")
 
 
