@@ -63,7 +63,7 @@ ROWS = {
     "`replay`": (*RUN, "command/Due:IsDueOfReplay"),
     "`sample`": (*ENDS, "command/Sample:IsDueOfSample"),
     "what a run is": ("c_meaning/Runs:IsRun",),
-    "what it means that a run hits a goal": ("hits/Hits:Hits",),
+    "what it means that a run hits a goal": ("measurer_hits/hits.Hits:Hits",),
     "which sources have which automaton": ("c_front/Automata:IsAutomatonOf",),
 }
 

@@ -21,15 +21,16 @@ CALL = re.compile(r"\bpub fn (\w+)")
 NAME = re.compile(r"`([\w.' /]+)`")
 
 
-def handed_on(crate: str) -> set[str]:
-    """The calls that a crate's lib.rt hands on or makes public: names of functions, but for those of laws."""
+def handed_on(crate: str, module: str = "") -> set[str]:
+    """The calls that a crate's lib.rt, or a module of it, hands on or makes public: names of functions, but for those of laws."""
     names = set[str]()
-    path = os.path.join(environment.ROOT, "crates", crate, "src", "lib.rt")
+    home = os.path.join(environment.ROOT, "crates", crate, "src")
+    path = os.path.join(home, f"{module}.rt") if module else os.path.join(home, "lib.rt")
     if os.path.exists(path):
         text = text_of(path)
         names |= set(CALL.findall(text))
-        for module, one, several in re.findall(r"^pub use (\w+)::(?:(\w+)|\{([^}]*)\});", text, re.MULTILINE):
-            if module != "laws":
+        for inner, one, several in re.findall(r"^pub use (\w+)::(?:(\w+)|\{([^}]*)\});", text, re.MULTILINE):
+            if inner != "laws":
                 names |= {name.strip() for name in (several or one).split(",")}
     return {name for name in names if re.match(r"[a-z]", name)}
 
@@ -47,13 +48,24 @@ def named_in_tables(section: str) -> set[str]:
     return {name.split(" ")[0] for cell in cells for name in NAME.findall(cell) if not name.endswith(".antt")}
 
 
+def parts_of(crate: str, section: str) -> list[tuple[str, str]]:
+    """The parts of a crate's section, each with its module; a section without parts is one, of the crate's own."""
+    parts = re.split(r"^#### (\w+)$", section, flags=re.MULTILINE)
+    return [("" if name == crate else name, text) for name, text in zip(parts[1::2], parts[2::2])] or [("", section)]
+
+
 def faults_of(crate: str, section: str) -> list[str]:
     """A line for each fault of a crate's section."""
+    return [fault for module, part in parts_of(crate, section) for fault in faults_of_part(crate, module, part)]
+
+
+def faults_of_part(crate: str, module: str, section: str) -> list[str]:
+    """A line for each fault of the part of a crate's section that has a module of it, or the crate's own."""
     labels = re.findall(r"^\*([A-Z][a-z ]+)\*:", section, re.MULTILINE)
     wrong = []
     if labels not in (list(LABELS), [label for label in LABELS if label != "Definition"]):
-        wrong.append(f"{crate}: it has {', '.join(labels)}, in place of {', '.join(LABELS)}")
-    for name in sorted(handed_on(crate)):
+        wrong.append(f"{crate} {module}: it has {', '.join(labels)}, in place of {', '.join(LABELS)}")
+    for name in sorted(handed_on(crate, module)):
         statement = "".join(part.capitalize() for part in name.split("_"))
         if f"{name}`" not in section and f"`{statement}`" not in section:
             wrong.append(f"{crate}: the call {name} isn't named")

@@ -4,7 +4,7 @@ An example is an indented block that begins with a line `FOLDER$ fshell WORD..`,
 `$ bin/fshell WORD..`, which is run at the top of the repository. What follows, up to the next such line, is what standard
 output gets, or it goes to a file where the line ends with `> NAME`; the status is 0, and standard error gets nothing.
 
-An example of a tool is a block that begins with a line `FOLDER$ ../../bin/NAME WORD..`. Each of its lines of that form is run
+An example of a tool is a block that begins with a line `FOLDER$ ../../bin/fshell NAME WORD..`. Each of its lines of that form is run
 by a shell in a copy of the examples, one behind the other, up to the document's end; the status is 0, and what follows is what
 standard output gets, where something follows. A line `..` stands for any lines. What needs a program that isn't there is left
 out.
@@ -28,6 +28,7 @@ import subprocess
 import tempfile
 from collections.abc import Callable, Iterator
 
+from fshell_tools import commands
 from tests import environment
 from tests import tools as tool_tests
 from tests.documents import test_crates
@@ -48,7 +49,8 @@ def texts() -> Iterator[tuple[str, str]]:
 def begun(line: str) -> tuple[str, list[str]] | None:
     """The folder and the words of a line that begins an example, if it does."""
     found = re.fullmatch(r"(examples/\S+)\$ fshell (.*)", line) or re.fullmatch(r"()\$ bin/fshell (.*)", line)
-    return (found.group(1), shlex.split(found.group(2))) if found else None
+    words = shlex.split(found.group(2)) if found else []
+    return (found.group(1), words) if found and words[0] not in commands.TOOLS else None
 
 
 def examples(text: str) -> Iterator[list[tuple[str, list[str], str]]]:
@@ -104,8 +106,8 @@ def matches(due: list[str], got: str) -> bool:
 
 def can_run(line: str) -> bool:
     """Whether what an example's line needs is there."""
-    adapts = "/adapt " in line or "adapted/" in line
-    return ("/campaign " not in line or shutil.which("parallel") is not None) and (
+    adapts = " adapt " in line or "adapted/" in line
+    return (" campaign " not in line or shutil.which("parallel") is not None) and (
         not adapts or all(map(tool_tests.is_there, ("pycparser", "gcc")))
     )
 
