@@ -238,7 +238,7 @@ def needs_are_told(folder: str) -> Iterator[bool]:
 def manual_pages_are_shown(folder: str) -> Iterator[bool]:
     run(folder, ["install", "to"])
     pages = os.path.join(folder, "to", "share", "man", "man1")
-    yield sorted(os.listdir(pages)) == sorted(f"{name}.1" for name in [*COMMANDS, *(f"fshell-{name}" for name in cli.TOOLS)])
+    yield sorted(os.listdir(pages)) == sorted(f"{name}.1" for name in ["fshell", *COMMANDS, *(f"fshell-{name}" for name in cli.TOOLS)])
     for name in os.listdir(pages):
         words = ["man", "--warnings", "-l", os.path.join(pages, name)]
         shown = subprocess.run(

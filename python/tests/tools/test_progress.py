@@ -61,9 +61,9 @@ def one_line_on_a_terminal(folder: str) -> Iterator[bool]:
 def on_terminal(folder: str, *words: str) -> tuple[str, int]:
     """What a tool writes to a terminal as its standard error, and its status."""
     leader, follower = pty.openpty()
-    path = os.path.join(environment.ROOT, "bin", words[0])
+    path = os.path.join(environment.ROOT, "bin", "fshell")
     process = subprocess.Popen(
-        [path, *words[1:]], cwd=folder, stdin=subprocess.DEVNULL, stdout=subprocess.PIPE, stderr=follower
+        [path, *words], cwd=folder, stdin=subprocess.DEVNULL, stdout=subprocess.PIPE, stderr=follower
     )
     os.close(follower)
     told = b""

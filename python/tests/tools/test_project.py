@@ -298,7 +298,7 @@ def entries_are_done_apart(folder: str) -> Iterator[bool]:
     env = counted(folder)
     ended = project(folder, "run", "--entry", "lamp", env=env)
     yield (ended.returncode, ended.stderr) == (2, "run: fshell.toml has no entry lamp; it has level, press\n")
-    path = os.path.join(environment.ROOT, "bin", "project")
+    path = os.path.join(environment.ROOT, "bin", "fshell")
     side = [
         subprocess.Popen([path, "run", "--entry", name], cwd=folder, env=env, stdout=subprocess.PIPE, text=True)
         for name in ("level", "press")

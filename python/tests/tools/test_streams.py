@@ -20,9 +20,9 @@ ANSWERS = [
 def ended(folder: str, words: Sequence[str], **streams: Any) -> tuple[int, str]:
     """The status of a tool and what it writes to standard error; Python's own buffers are as a user has them."""
     own = {name: value for name, value in os.environ.items() if name != "PYTHONUNBUFFERED"}
-    path = os.path.join(environment.ROOT, "bin", words[0])
+    path = os.path.join(environment.ROOT, "bin", "fshell")
     streams = {"stdin": subprocess.DEVNULL, "stderr": subprocess.PIPE, **streams}
-    told = subprocess.run([path, *words[1:]], cwd=folder, env=own, timeout=SECONDS, **streams)
+    told = subprocess.run([path, *words], cwd=folder, env=own, timeout=SECONDS, **streams)
     return told.returncode, (told.stderr or b"").decode()
 
 
@@ -56,7 +56,7 @@ def closed_errors(folder: str) -> Iterator[bool]:
     for words in ANSWERS:
         if words != ["install", "--check"]:
             open_too = subprocess.run(
-                [os.path.join(environment.ROOT, "bin", words[0]), *words[1:]], cwd=folder, capture_output=True
+                [os.path.join(environment.ROOT, "bin", "fshell"), *words], cwd=folder, capture_output=True
             )
             with open(os.path.join(folder, "out"), "wb") as out:
                 status, _ = ended(folder, words, stdout=out, stderr=None, preexec_fn=lambda: os.close(2))
