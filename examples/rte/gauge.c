@@ -1,20 +1,20 @@
-/* A gauge with eight operations of each verdict of fshell rte; what stands behind a line is the verdict of its operations. */
+/* A gauge with operations of four verdicts of fshell rte; what stands behind a line is the verdict of its operations. */
 #define WIDTH 32
 
 static const int curve[4] = {3, 9, 27, 81};
 static int log_of[8];
 
-/* What the level means, by the curve. It is called where the order of evaluation matters, so what is said of it
-   holds for FShell's order alone. */
+/* What the level means, by the curve. It is called where the order of evaluation matters, so by
+   another order than FShell's it may be called where it fails. */
 int smoothed(unsigned char level) {
-  int low = curve[level & 3]; /* never within the bounds */
-  int high = curve[3 - (level & 3)]; /* never within the bounds */
-  int step = high / (low + 1); /* never within the bounds */
-  int rest = high % (low + 2); /* never within the bounds */
-  int fine = step << (level & 7); /* never within the bounds */
-  int coarse = rest >> (level & 15); /* never within the bounds */
-  assert(low > 0); /* never within the bounds */
-  return fine + coarse + log_of[level & 7]; /* never within the bounds */
+  int low = curve[level & 3]; /* open */
+  int high = curve[3 - (level & 3)]; /* open */
+  int step = high / (low + 1); /* open */
+  int rest = high % (low + 2); /* open */
+  int fine = step << (level & 7); /* open */
+  int coarse = rest >> (level & 15); /* open */
+  assert(low > 0); /* open */
+  return fine + coarse + log_of[level & 7]; /* open */
 }
 
 /* What a reading costs, where the settings are as they should be: nothing here ever fails. */

@@ -120,12 +120,14 @@ class Expressions:
             return self.signed()
         at, first = self.at, self.level(level + 1)
         rest: list[tuple[str, Expression]] = []
+        marks: list[int] = []
         while self.text in LEVELS[level]:
             operator, mark = self.text, self.at
             self.at += 1
             rest.append((operator, self.level(level + 1)))
+            marks.append(mark)
             self.note(operator, at, mark)
-        return Chain(at, first, rest) if rest else first
+        return Chain(at, first, rest, marks) if rest else first
 
     def signed(self) -> Expression:
         """An operand behind its signs and casts."""

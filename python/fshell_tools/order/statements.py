@@ -49,7 +49,7 @@ class Items(Expressions):
         at = self.at
         while self.take("const"):
             pass
-        made = Parts(at, [*self.declarators(self.kind())])
+        made = Parts(at, [*self.declarators(self.kind())], word="declaration")
         self.note("statement", at, at)
         return made
 
@@ -73,7 +73,7 @@ class Items(Expressions):
             return Assign(at, target, behind[0], None)
         if behind[-1:] != "=":
             raise ValueError("an assignment is missing")
-        made = Assign(at, target, behind[:-1], self.expression())
+        made = Assign(at, target, behind[:-1], self.expression(), mark)
         self.note(behind[:-1], at, mark)
         return made
 
@@ -127,29 +127,29 @@ class Items(Expressions):
             if self.text != ":":
                 self.constant()
             self.need(":")
-            return Parts(at, [])
+            return Parts(at, [], word=self.texts[at])
         elif self.texts[at + 1] == ":":
             self.at += 2
-            return Parts(at, [self.statement()])
+            return Parts(at, [self.statement()], word=":")
         elif self.take("return"):
-            made = Parts(at, [] if self.text == ";" else [self.expression()])
+            made = Parts(at, [] if self.text == ";" else [self.expression()], word="return")
         elif self.take("break", "continue") or self.text == ";":
-            made = Parts(at, [])
+            made = Parts(at, [], word=self.texts[at])
         else:
             made = self.simple()
         self.need(";")
         return made
 
     def choice(self) -> Statement:
-        """An `if` with its arms, or a `switch`."""
-        at, parts = self.at, list[Statement]()
-        while self.take("if", "switch"):
-            parts += [self.in_brackets(), self.body()]
-            if not self.take("else"):
-                break
-            if self.text != "if":
+        """An `if` with its arms, each a condition and a body, and its last `else`; or a `switch`."""
+        at, word = self.at, self.word()
+        parts: list[Statement] = [self.in_brackets(), self.body()]
+        while word == "if" and self.take("else"):
+            if not self.take("if"):
                 parts.append(self.body())
-        return Parts(at, parts)
+                break
+            parts += [self.in_brackets(), self.body()]
+        return Parts(at, parts, word=word)
 
     def loop(self) -> Statement:
         """Reads a `while`, `do` or `for` from its word on (C11 6.8.5). Raises ValueError where it isn't one of these."""

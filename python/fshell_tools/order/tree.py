@@ -78,11 +78,12 @@ class Cast:
 
 @dataclass
 class Chain:
-    """Operators of one level from the left, each with its right operand."""
+    """Operators of one level from the left, each with its right operand; `marks` are the numbers of their tokens."""
 
     at: int
     first: "Expression"
     rest: list[tuple[str, "Expression"]]
+    marks: list[int] = field(default_factory=list)
 
 
 @dataclass
@@ -121,6 +122,7 @@ class Assign:
     target: Target
     operator: str
     value: Expression | None
+    mark: int = 0  # the number of the operator's token
 
 
 @dataclass
@@ -146,11 +148,13 @@ class Loop:
 
 @dataclass
 class Parts:
-    """Any other statement: its expressions and statements in order. One that opens a scope is a block."""
+    """Any other statement: its expressions and statements in order. One that opens a scope is a block. `word` is the word
+    that it begins with, `:` of a label, and `declaration` of one; a block has none."""
 
     at: int
     parts: list["Statement"]
     opens: bool = False
+    word: str = ""
 
 
 Statement = Union[Variable, Assign, Check, Loop, Parts, Number, Name, Element, Call, Unary, Cast, Chain, Ordered]

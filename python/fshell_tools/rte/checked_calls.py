@@ -118,7 +118,7 @@ def of_finder(graph: Graph, finder: Finder, table: Table, entry: str, at: str) -
     for form in sorted((one for one in finder.forms if one.name == "call"), key=lambda one: one.mark):
         if finder.words[form.mark].text not in table.functions:
             continue
-        edges = tuple(edge for edge in finder.edges_of_call(form) if edge.number in left)
+        edges = tuple(edge for edge in finder.calls.get(form.mark, []) if edge.number in left)
         if edges:
             found.append(of_call(finder, table, edges, form.mark, finder.text(form), at))
     known = {edge.number for site in found for edge in site.edges}

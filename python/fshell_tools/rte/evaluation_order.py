@@ -17,7 +17,7 @@ from fshell_tools.core.verdicts import Limits
 from fshell_tools.order import main as order
 from fshell_tools.order.main import Warned
 from fshell_tools.rte.failing_operations import Finder
-from fshell_tools.rte.rows import Row, Verdict
+from fshell_tools.rte.rows import BY_TEXT, Row, Verdict
 
 BY_A_TRAP = "one part may end the run (trap), and another does something"
 
@@ -29,18 +29,27 @@ def is_local(one: Warned) -> bool:
 
 
 def limits_of(limits: Limits, asked: Asked) -> tuple[Limits, list[Warned]]:
-    """What restricts all rows, and the warnings that restrict those of a statement alone; none of these where all rows
-    are restricted."""
-    if not limits.restriction:
+    """What restricts all rows, also where runs leave the bounds, and the warnings that restrict those of a statement alone;
+    none of these where all rows are restricted."""
+    restriction = order.restriction(asked.entry, asked.sources, asked.query, asked.ends, asked.place)
+    if not restriction:
         return limits, []
+    restricted = dataclasses.replace(limits, restriction=restriction)
     try:
         found = order.warnings(asked.entry, asked.sources, asked.query, asked.ends, folder=asked.place)
     except Failure:
-        return limits, []
+        return restricted, []
     told = [one for one in found if one.kind in order.needed(asked.query, asked.ends)]
-    if any(not is_local(one) for one in told):
-        return limits, []
+    wide = [one for one in told if not is_local(one)]
+    if wide:
+        return dataclasses.replace(limits, restriction=cause(wide[0], asked.place)), []
     return dataclasses.replace(limits, restriction=""), told
+
+
+def cause(one: Warned, folder: str) -> str:
+    """Why what is refuted isn't said beyond FShell's order; `folder` is that in which the sources' names are."""
+    place = original_sources.place_of(one.file, one.line, one.column, folder)
+    return f"C leaves the order of evaluation open at {place} ({one.kind})"
 
 
 class Regions:
@@ -55,7 +64,7 @@ class Regions:
         """The numbers of the tokens of a warning's statement, and of the functions that it may call."""
         tokens: set[int] = set()
         for token in self.finder.at.get((one.file, one.line, one.column), []):
-            form = self.finder.statements.at(token) or self.finder.bodies.get(one.function)
+            form = self.finder.statement(token) or self.finder.bodies.get(one.function)
             tokens |= set(range(form.first, form.last + 1)) if form else {token}
         names = {self.finder.words[token].text for token in tokens}
         called = [name for name in self.finder.bodies if name in names]
@@ -65,15 +74,14 @@ class Regions:
         return tokens
 
     def restricted(self, rows: list[tuple[set[int], Row]]) -> Iterator[tuple[set[int], Row]]:
-        """The rows, each with its tokens; what is said of operations whose order matters holds within the bounds alone."""
+        """The rows, each with its tokens; what is said of operations whose order matters is open, with that place as the
+        cause, but for what holds by the text alone."""
         wrong = [tokens for tokens, row in rows if row.verdict in (Verdict.FAILS, Verdict.OPEN)]
         open_ones = [
             (one, region) for one, region in self.found if any(not tokens or tokens & region for tokens in wrong)
         ]
         for tokens, row in rows:
             found = next((one for one, region in open_ones if tokens & region), None)
-            if found and row.verdict in (Verdict.NEVER, Verdict.NOT_REACHED):
-                place = original_sources.place_of(found.file, found.line, found.column, self.place)
-                why = f"C leaves the order of evaluation open at {place} (strict)"
-                row = dataclasses.replace(row, verdict=Verdict.WITHIN, why=why)
+            if found and row.why != BY_TEXT and row.verdict not in (Verdict.FAILS, Verdict.OPEN):
+                row = dataclasses.replace(row, verdict=Verdict.OPEN, why=cause(found, self.place))
             yield tokens, row

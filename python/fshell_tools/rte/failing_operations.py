@@ -1,9 +1,8 @@
 """The operations of sources that can end a run wrongly, and the nodes of the automaton at which each is done.
 
 An operation is done along one edge, and a run that it ends stands at the node from which that edge leads. Which edge it is goes by
-the table of docs/GRAPH.md: what stands in a condition that isn't split further is done at its guards, the arguments of a call at
-the call, and the rest at the other edges of the statement. Where a statement has several of these an operation has the
-nodes of all that touch its variables, and where nothing is found those of the whole statement; so the nodes of an operation may be too many, and none is lacking.
+the table of docs/GRAPH.md, by which all edges are made here again and compared with those of the program (lowering): so no
+edge along which a run may be trapped is without its operations, and no operation is without its edge.
 """
 
 from collections.abc import Iterator, Sequence
@@ -17,6 +16,7 @@ from fshell_tools.order import tokens
 from fshell_tools.order.statements import Items
 from fshell_tools.order.tokens import Word
 from fshell_tools.order.tree import Unit
+from fshell_tools.rte import constants, lowering
 
 KINDS = {"/": "division", "%": "remainder", "[": "index", "<<": "shift", ">>": "shift", "assert": "assert"}
 OF_ANY = {"assume": "assume", "call": "call"}
@@ -60,6 +60,7 @@ class Operation:
     text: str
     nodes: frozenset[int]
     span: tuple[int, int] = (0, 0)  # its first and its last token
+    is_safe: bool = False  # by its constant it can't fail
 
     def has(self, other: "Operation") -> bool:
         """Whether another operation stands within it."""
@@ -83,6 +84,7 @@ class Reader(Items):
         super().__init__(words)
         self.forms: list[Form] = []
         self.bodies: dict[str, Form] = {}
+        self.unit = Unit()
 
     def note(self, form: str, first: int, mark: int) -> None:
         """Keeps a form that was read up to the token before this one, by the numbers of its first token and its mark."""
@@ -90,124 +92,47 @@ class Reader(Items):
 
     def read(self) -> None:
         """Reads all items. Raises ValueError or IndexError where the program's grammar has no such text."""
-        unit = Unit()
         while self.text:
-            before, unit.functions = self.at, {}
-            self.item(unit)
-            self.bodies |= {name: Form("function", before, before, self.at - 1) for name in unit.functions}
-
-
-class Places:
-    """Says of each token which form of some names is the innermost around it."""
-
-    def __init__(self, forms: Sequence[Form], count: int) -> None:
-        self.found: list[Form | None] = [None] * count
-        # (the shorter ones come last, and of two of one span the one that was read first, which stands within the other)
-        for form in sorted(reversed(forms), key=lambda one: one.first - one.last):
-            self.found[form.first : form.last + 1] = [form] * (form.last + 1 - form.first)
-
-    def at(self, token: int) -> Form | None:
-        """The innermost form around a token, by its number; None where none is."""
-        return self.found[token]
+            before, known = self.at, set(self.unit.functions)
+            self.item(self.unit)
+            for name in self.unit.functions.keys() - known:
+                self.bodies[name] = Form("function", before, before, self.at - 1)
 
 
 class Finder:
-    """Finds the operations of the functions of a unit, and the nodes of its automaton at which each is done."""
+    """Finds the operations of the functions of a unit, and the nodes of its automaton at which each is done. Raises Failure
+    where the edges of the unit aren't those of the automaton."""
 
     def __init__(self, graph: Graph, sources: Sequence[str], words: list[Word], reader: Reader) -> None:
         self.graph, self.words, self.forms, self.bodies = graph, words, reader.forms, reader.bodies
-        forms = self.forms
         self.texts = {name: Source(name, program.read(name)) for name in sources}
-        self.owners = Places([one for one in forms if one.name in ("condition", "branch", "call", "constant", "statement")
-                              or (one.name == "test" and self.is_condition(one))], len(words))  # fmt: skip
-        self.statements = Places([one for one in forms if one.name == "statement"], len(words))
+        self.lowering = lowering.of_unit(reader.unit, graph, words)
+        self.safe = constants.Safe(reader.unit, words).marks
+        self.statements = [one for one in self.forms if one.name == "statement"]
+        self.constants = [one for one in self.forms if one.name == "constant"]
         self.at: dict[Place, list[int]] = {}
         for number, word in enumerate(words):
             self.at.setdefault((word.file, word.line, word.column), []).append(number)
-        self.edges: dict[Place, list[Edge]] = {}
-        self.guards: dict[Form, set[int]] = {}
-        for edge in graph.edges:
-            self.put(edge)
-        self.calls: dict[Place, list[Form]] = {}
-        for form in sorted((one for one in forms if one.name == "call"), key=lambda one: one.last):
-            self.calls.setdefault(self.statement_place(form.mark), []).append(form)
+        self.edges: dict[int, set[int]] = {}  # by the mark of an operation, the edges along which it is done
+        self.calls: dict[int, list[Edge]] = {}  # by the first token of a call, its edges
+        for number, step in enumerate(self.lowering.steps):
+            for mark in step.marks:
+                self.edges.setdefault(mark, set()).add(number)
+            if step.call >= 0:
+                self.calls.setdefault(step.call, []).append(graph.edges[number])
+            if step.operation in ("assert", "assume"):
+                self.edges.setdefault(step.at, set()).add(number)
 
-    def is_condition(self, test: Form) -> bool:
-        """Whether a test is that of guards: not that of a `switch`, an assert or an assume."""
-        before = self.words[test.first - 2].text if test.first > 1 else ""
-        return before not in ("switch", "assert", "assume")
-
-    def put(self, edge: Edge) -> None:
-        """Puts an edge to its statement, a guard to its condition."""
-        place = (edge.file, edge.line, edge.column)
-        if not edge.is_guard:
-            self.edges.setdefault(place, []).append(edge)
-            return
-        for token in self.at.get(place, []):
-            owner = self.owners.at(token)
-            if owner:
-                self.guards.setdefault(owner, set()).add(edge.source)
-
-    def statement_place(self, token: int) -> Place:
-        """The place of the statement around a token, by which edges are told; of a token outside of any, its own."""
-        form = self.statements.at(token)
-        word = self.words[form.first if form else token]
-        return word.file, word.line, word.column
-
-    def around(self, token: int) -> set[int]:
-        """All nodes that edges of a token's statement leave, its conditions' guards among them; none outside of any."""
-        statement = self.statements.at(token)
-        if not statement:
-            return set()
-        nodes = {edge.source for edge in self.edges.get(self.statement_place(token), []) if edge.operation != "return"}
-        for form, sources in self.guards.items():
-            if statement.has(form.first):
-                nodes |= sources
-        return nodes
-
-    def of_call(self, call: Form) -> set[int]:
-        """The node of a call's edge, where it is known; an empty set else."""
-        edges = self.edges_of_call(call)
-        return {edge.source for edge in edges} if len(edges) == 1 else set()
-
-    def edges_of_call(self, call: Form) -> list[Edge]:
-        """The edge of a call: the calls of a statement and its edges of calls have one order. Where they haven't, those
-        of the same name."""
-        place = self.statement_place(call.mark)
-        made = [one for one in self.edges.get(place, []) if one.operation in ("call", "answer")]
-        written = self.calls[place]
-        if [one.name for one in made] != [self.words[one.mark].text for one in written]:
-            return [one for one in made if one.name == self.words[call.mark].text]
-        return [made[written.index(call)]]
-
-    def touching(self, form: Form, edges: list[Edge]) -> list[Edge]:
-        """Those of some edges that read or write all variables that a form names, if there are any. A form with parts
-        that are done before it may have their values in place of their names, so it has all edges."""
-        span = self.words[form.first : form.last + 1]
-        if any(word.text in ("&&", "||", "?", ":") for word in span) or self.calls_in(form):
-            return edges
-        known = {name for edge in edges for name in edge.reads + edge.writes}
-        names = known & {word.text for word in span}
-        return [edge for edge in edges if names <= {*edge.reads, *edge.writes}] or edges
-
-    def calls_in(self, form: Form) -> bool:
-        """Whether a call stands within a form."""
-        calls = self.calls.get(self.statement_place(form.mark), [])
-        return any(form.first <= one.mark <= form.last for one in calls)
+    def statement(self, token: int) -> Form | None:
+        """The innermost statement around a token, by its number; None where none is."""
+        around = [one for one in self.statements if one.has(token)]
+        return min(around, key=lambda one: one.last - one.first) if around else None
 
     def nodes(self, kind: str, form: Form) -> set[int]:
-        """The numbers of the nodes at which an operation of a kind is done; too many rather than too few."""
-        owner = form if form.name == "call" else self.owners.at(form.mark)
-        found: set[int] = set()
-        if kind in ("assert", "assume") or (owner and owner.name in ("branch", "statement")):
-            wanted = (kind,) if kind in ("assert", "assume") else ("assign", "assert", "assume")
-            edges = self.edges.get(self.statement_place(form.mark), [])
-            found = {edge.source for edge in self.touching(form, [one for one in edges if one.operation in wanted])}
-        elif owner and owner.name == "call":
-            found = self.of_call(owner)
-        elif owner:
-            found = self.guards.get(owner, set())
-        return found or self.around(form.mark)
+        """The numbers of the nodes at which an operation of a kind is done. Raises Failure where there is none."""
+        if kind == "call":
+            return {edge.source for edge in self.calls.get(form.mark, [])}
+        return {self.graph.edges[edge].source for edge in self.edges.get(form.mark, ())}
 
     def text(self, form: Form) -> str:
         """The text of a form as the source has it, in one line, without a semicolon at its end."""
@@ -223,18 +148,24 @@ class Finder:
         name = word if form.name == "statement" and word in ("assert", "assume") else form.name
         return (KINDS | (OF_ANY if any_end else {})).get(name, "")
 
+    def is_constant(self, token: int) -> bool:
+        """Whether a token is one of a constant expression."""
+        return any(one.has(token) for one in self.constants)
+
     def operations(self, reached: set[str], any_end: bool) -> Iterator[Operation]:
         """The operations of the `reached` functions, in the order of the sources; those of constant expressions aren't
         any (C11 6.6: they are no part of a run)."""
         bodies = [form for name, form in self.bodies.items() if name in reached]
         for form in sorted(self.forms, key=lambda one: (one.mark, one.last)):
             kind = self.kind(form, any_end)
-            owner = self.owners.at(form.mark)
-            if not kind or not any(one.has(form.mark) for one in bodies) or (owner and owner.name == "constant"):
+            if not kind or not any(one.has(form.mark) for one in bodies) or self.is_constant(form.mark):
                 continue
             word, nodes = self.words[form.mark], self.nodes(kind, form)
+            if not nodes:
+                raise program.Failure(f"{word.place}: the operation {self.text(form)} belongs to no edge")
             span = (form.first, form.last)
-            yield Operation(kind, word.file, word.line, word.column, self.text(form), frozenset(nodes), span)
+            is_safe = form.mark in self.safe
+            yield Operation(kind, word.file, word.line, word.column, self.text(form), frozenset(nodes), span, is_safe)
 
 
 def finder_of(graph: Graph, sources: Sequence[str]) -> Finder:

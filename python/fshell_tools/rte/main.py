@@ -5,11 +5,11 @@ The operations are the divisions, remainders, indices, shifts and asserts of the
 
     FILE:LINE:COLUMN: VERDICT: OPERATION
 
-never                    no run ends there, by certificates that `check` and `check-bounds` accept
-never within the bounds  no run within the bounds ends there, but a run may leave them, or C leaves an order open
+never                    no run ends there, by certificates that `check` and `check-bounds` accept, or by its constant alone
+never within the bounds  no run within the bounds ends there, but a run may leave them
 fails                    the input that is told ends there
 not reached              no run comes there, by certificates
-open                     the budget was spent, or another operation of the same step fails
+open                     the budget was spent, another operation of the same step fails, or C leaves an order open
 
 DIR gets rte.json, rte.sarif, the certificates, the inputs, and failures.c, which repeats the runs that fail. Where it is there, of the same question, what it holds is checked again and
 what is missing is made. The status is 0 where all are never, and 1 else.
@@ -31,7 +31,14 @@ from fshell_tools.core.graph import Graph
 from fshell_tools.core.program import Failure
 from fshell_tools.core.verdicts import Limits
 from fshell_tools.order.main import Warned
-from fshell_tools.rte import checked_calls, evaluation_order, export, failing_operations, operand_predicates, reproduction
+from fshell_tools.rte import (
+    checked_calls,
+    evaluation_order,
+    export,
+    failing_operations,
+    operand_predicates,
+    reproduction,
+)
 from fshell_tools.rte.failing_operations import Finder
 from fshell_tools.rte.rows import Row, Rows, Verdict, is_clean, tally
 from fshell_tools.rte.search import ENDINGS, has_bounds_certificates, known, not_reached, prove_bounds
@@ -172,7 +179,9 @@ def main() -> int:
         program.write_whole(folder.at("rte.sarif"), export.sarif_of(rows, asked))
     lines = [line for row in rows for line in row.lines(given.folder)]
     how = (
-        [f"failures are repeated by {' '.join(reproduction.command(given.folder, checked_calls.header_of(asked.sources)))}"]
+        [
+            f"failures are repeated by {' '.join(reproduction.command(given.folder, checked_calls.header_of(asked.sources)))}"
+        ]
         if any(row.input for row in rows)
         else []
     )

@@ -79,7 +79,7 @@ class Steps:
     def of_node(self, node: int) -> dict[Operation, Apart]:
         """What is known of the operations at a node where a run ends, of those that are done nowhere else and are
         plain; nothing where there is one alone."""
-        there = [one for one in self.operations if node in one.nodes]
+        there = [one for one in self.operations if node in one.nodes and not one.is_safe]
         if len(there) < 2:
             return {}
         found = {one: self.of_operation(node, one, there) for one in there if one.nodes == {node}}

@@ -14,6 +14,9 @@ from fshell_tools.rte.operand_predicates import Apart
 from fshell_tools.rte.search import Failed, Known
 
 
+BY_TEXT = "by its constant alone"
+
+
 class Verdict(enum.StrEnum):
     """What is said of an operation, in the words of a row (docs/TOOLS.md)."""
 
@@ -70,9 +73,10 @@ class Row:
 
 
 def refuted(limits: Limits, is_unreached: bool) -> tuple[Verdict, str]:
-    """The verdict of an operation at which no run within the bounds ends, and why it isn't a better one, or nothing."""
-    if limits.restriction and limits.suffice:
-        return Verdict.WITHIN, limits.restriction
+    """The verdict of an operation at which no run within the bounds ends, and why it isn't a better one, or nothing. Where
+    another order of evaluation may fail there, it is open, whatever is known of the bounds."""
+    if limits.restriction:
+        return Verdict.OPEN, limits.restriction
     if not limits.make_unreachable:
         return Verdict.WITHIN, ""
     return (Verdict.NOT_REACHED if is_unreached else Verdict.NEVER), ""
@@ -86,6 +90,18 @@ class Rows:
         self.graph, self.operations, self.known, self.limits = graph, operations, known, limits
         self.unreached: set[int] = set()
         self.apart: dict[int, dict[Operation, Apart]] = {}
+        self.unknown = (
+            self.without_operation()
+        )  # by a function's name, a location there at which no known operation failed
+
+    def without_operation(self) -> dict[str, str]:
+        """Of each function where a run ends at a node that has no operation which ends it so, that node's location."""
+        found: dict[str, str] = {}
+        for node, failed in self.known.failed.items():
+            kinds = CAUSES.get(failed.end, ())
+            if not any(node in one.nodes and one.kind in kinds and not one.is_safe for one in self.operations):
+                found.setdefault(self.graph.nodes[node].function, self.graph.nodes[node].place)
+        return found
 
     def goals(self, nodes: frozenset[int]) -> tuple[int, ...]:
         """The numbers of the goals of nodes, of those that have one."""
@@ -98,13 +114,14 @@ class Rows:
     def failing(self, node: int, failed: Failed) -> Iterator[Row]:
         """The rows of a node where a run ends: the operations there that are known to fail by themselves, or those that
         can have ended that run."""
-        there = [one for one in self.operations if node in one.nodes]
+        kinds = CAUSES.get(failed.end, ())
+        there = [one for one in self.operations if node in one.nodes and not one.is_safe]
         apart = self.apart.get(node, {})
         alone = [one for one in there if one in apart and apart[one].failed]
         for one in alone:
             yield self.failed(node, (one,), apart[one].failed or failed)
-        left = [one for one in there if one not in apart or not apart[one].is_never]
-        those = tuple(one for one in left if one.kind in CAUSES.get(failed.end, ())) or tuple(left or there)
+        there = [one for one in there if one.kind in kinds]
+        those = tuple(one for one in there if one not in apart or not apart[one].is_never) or tuple(there)
         if not alone:
             yield self.failed(node, those, failed)
 
@@ -123,6 +140,13 @@ class Rows:
 
     def single(self, one: Operation) -> Row:
         """The row of an operation that stands in none of those that fail."""
+        unknown = {self.graph.nodes[node].function for node in one.nodes} & self.unknown.keys()
+        if unknown:
+            why = f"a run ends at {self.unknown[min(unknown)]}, in a step without an operation that is known"
+            return Row(one.place, one.told, Verdict.OPEN, why, operations=(one,), goals=self.goals(one.nodes))
+        if one.is_safe:
+            verdict = Verdict.NOT_REACHED if one.nodes <= self.unreached else Verdict.NEVER
+            return Row(one.place, one.told, verdict, BY_TEXT, operations=(one,), goals=self.goals(one.nodes))
         apart = self.never_apart(one)
         if apart:
             verdict, why = refuted(self.limits, one.nodes <= self.unreached)

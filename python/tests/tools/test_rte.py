@@ -76,6 +76,40 @@ int f(int x, unsigned char y) {
 }
 """
 VALUE = "int g = 1;\nint h(void) {\n  g = 5;\n  return 1;\n}\nint f(unsigned char y) {\n  int k = g + h();\n  return 8 / (y + 1) + k;\n}\n"
+# C may read g before h sets it (6.5p3)
+OTHER_FAILS = """int g;
+int h(void) { g = 1; return 0; }
+int f(unsigned char n) {
+  while (n > 2) {
+    n = n - 1;
+  }
+  return 1 / g + h();
+}
+"""
+CONSTANTS = """enum { FOUR = 4 };
+int t[8];
+int f(int x, long z, int y) {
+  int a = x / FOUR;
+  a += t[7] + 5 / y + t[8 - 1] + (x >> 31);
+  a = (int)(z >> 40) + 7 % y;
+  a >>= 3;
+  return a;
+}
+"""
+# each constant is the first that may fail (C11 6.5.5p5, p6, 6.5.6p8, 6.5.7p3): none of these is `never` by its text
+CONSTANTS_THAT_FAIL = """int t[8];
+int f(unsigned char k, int x, long z) {
+  if (k == 0) { return x % -1; }
+  if (k == 1) { return t[8]; }
+  if (k == 2) { return x << 32; }
+  if (k == 3) { return z >> 64 == 0; }
+  if (k == 4) { return x / 0; }
+  if (k == 5) { return (x < z) << 32; }
+  if (k == 6) { return 1 << 32; }
+  if (k == 7) { return (int)z >> 40; }
+  return t[7] + (int)(z << 63) + (int)(1L << 40);
+}
+"""
 ENDS = "int deep(int n) {\n  return deep(n);\n}\nint f(int x) {\n  assume(x != 3);\n  return x == 5 ? deep(x) : 0;\n}\n"
 
 
@@ -95,14 +129,24 @@ CASES = [
     one("an order of evaluation in which nothing fails", STRICT, [], 0,
         told("a.c:5:6: never: index a[x]", SUFFICE[:-1], "rows 1: 1 never")),
     one("the order of evaluation of a statement in which something fails", TWO_TRAPS, [], 1, told(
-        "a.c:3:11: never within the bounds: index a[y & 3]: C leaves the order of evaluation open at a.c:7:8 (strict)",
+        "a.c:3:11: open: index a[y & 3]: C leaves the order of evaluation open at a.c:7:8 (strict)",
         "a.c:6:13: never: division 9 / (y + 1)", "a.c:7:10: fails: division 8 / x: trapped zero-divisor by the input args 0 0",
         "  to repeat it: d/failures 1", "a.c:8:15: never: index a[y & 3]", SUFFICE[:-1],
-        "failures are repeated by gcc -w -fsanitize=undefined -fno-sanitize-recover=all -fwrapv -o d/failures d/failures.c", "rows 4: 2 never, 1 never within the bounds, 1 fails")),
+        "failures are repeated by gcc -w -fsanitize=undefined -fno-sanitize-recover=all -fwrapv -o d/failures d/failures.c", "rows 4: 2 never, 1 fails, 1 open")),
     one("the order of evaluation on which a value hangs", VALUE, [], 1, told(
-        "a.c:8:12: never within the bounds: division 8 / (y + 1): C leaves the order of evaluation open at a.c:7:11 (value)",
+        "a.c:8:12: open: division 8 / (y + 1): C leaves the order of evaluation open at a.c:7:11 (value)",
         SUFFICE[:-1], "no refuted goal is called unreachable: C leaves the order of evaluation open at a.c:7:11 (value)",
-        "rows 1: 1 never within the bounds")),
+        "rows 1: 1 open")),
+    one("another order of evaluation fails, and runs leave the bounds", OTHER_FAILS, ["--turns", "1"], 1, None),
+    one("constants", CONSTANTS, [], 1, told(
+        "a.c:4:13: never: division x / FOUR: by its constant alone", "a.c:5:9: never: index t[7]: by its constant alone",
+        "a.c:5:17: fails: division 5 / y: trapped zero-divisor by the input args 0 0 0", "  to repeat it: d/failures 1",
+        "a.c:5:24: never: index t[8 - 1]: by its constant alone", "a.c:5:37: never: shift x >> 31: by its constant alone",
+        "a.c:6:15: never: shift z >> 40: by its constant alone", "a.c:6:26: never: remainder 7 % y",
+        "a.c:7:5: never: shift a >>= 3: by its constant alone", SUFFICE[:-1],
+        "failures are repeated by gcc -w -fsanitize=undefined -fno-sanitize-recover=all -fwrapv -o d/failures d/failures.c",
+        "rows 8: 7 never, 1 fails")),
+    one("constants that fail", CONSTANTS_THAT_FAIL, [], 1, None),
     Case("rte: no such entry", ["rte", "g", "a.c", "-o", "d"], {"a.c": DEAD}, 2, "", "rte: no function is called g\n", needs=GRAPH),
     Case("rte: no such file", ["rte", "f", "no.c", "-o", "d"], {}, 2, "", "rte: no.c: No such file or directory\n", needs=GRAPH),
     Case("rte: what isn't read", ["rte", "f", "a.c", "-o", "d"], {"a.c": "int f(void) { return *p; }\n"}, 2, "",
@@ -235,11 +279,30 @@ def an_order_restricts_its_statement(folder: str) -> Iterator[bool]:
     put(folder, {"a.c": IN_OTHER_FORMS})
     run(folder, ["rte", "f", "a.c", "-o", "d"])
     rows = {row["place"].removeprefix("a.c:"): row for row in report(folder)["rows"]}
-    fails, within = {"6:13", "8:20", "13:9"}, {"3:11", "14:11"}
+    fails, open_ones = {"6:13", "8:20", "13:9"}, {"3:11", "14:11"}
     yield {place for place, row in rows.items() if row["verdict"] == "fails"} == fails
-    yield {place for place, row in rows.items() if row["verdict"] == "never within the bounds"} == within
+    yield {place for place, row in rows.items() if row["verdict"] == "open"} == open_ones
     yield {place for place, row in rows.items() if row["verdict"] == "never"} == {"7:8", "9:13", "11:11", "16:15"}
     yield rows["14:11"]["why"] == "C leaves the order of evaluation open at a.c:13:7 (strict)"
+
+
+def constants_that_fail(folder: str) -> Iterator[bool]:
+    """Of a constant that may fail nothing is said by the text: a run ends at each of these, by hand."""
+    put(folder, {"a.c": CONSTANTS_THAT_FAIL})
+    run(folder, ["rte", "f", "a.c", "-o", "d"])
+    rows = report(folder)["rows"]
+    yield [row["input"]["args"][0] for row in rows if row["verdict"] == "fails"] == list(range(8))
+    yield [row["verdict"] for row in rows[8:]] == ["never"] * 3
+
+
+def another_order_fails(folder: str) -> Iterator[bool]:
+    """Within the bounds another order of evaluation divides by 0, so nothing is said of these either."""
+    put(folder, {"a.c": OTHER_FAILS})
+    ended = run(folder, ["rte", "f", "a.c", "-o", "d", "--turns", "1"])
+    (row,) = report(folder)["rows"]
+    why = "C leaves the order of evaluation open at a.c:7:10 (value)"
+    yield (ended.returncode, row["verdict"], row["why"]) == (1, "open", why)
+    yield "the bounds don't suffice" in ended.stdout
 
 
 def any_ends(folder: str) -> Iterator[bool]:
@@ -297,7 +360,7 @@ int twice(int y) {
 OF_APART = {
     "twice": [("16:11", "fails"), ("16:25", "never")],
     "f": [("4:12", "fails"), ("4:19", "fails"), ("4:30", "never"), ("4:33", "open"), ("4:53", "never"), ("4:70", "never")],
-    "g": [("7:5", "fails"), ("7:14", "never"), ("8:12", "fails"), ("8:23", "open"), ("8:39", "never within the bounds")],
+    "g": [("7:5", "fails"), ("7:14", "never"), ("8:12", "fails"), ("8:23", "open"), ("8:39", "never")],
     "h": [("11:3", "fails"), ("11:12", "fails"), ("11:21", "never"), ("12:4", "never"), ("12:16", "fails")],
 }  # fmt: skip
 
@@ -425,7 +488,111 @@ def each_trap_has_its_operation(folder: str) -> Iterator[bool]:
     yield all(any(node in one.nodes and one.kind in CAUSES[end] for one in operations) for end, node in ends)
 
 
-TRIED = [(GRAPH, wrong_words), (GRAPH, planted_faults_are_red), (("graph", "gcc"), gcc_says_the_same),
+# statements behind an `else`, and what is done in their conditions and arguments
+BEHIND_ELSE = """int id(int x) { return x; }
+int f(int k, int x) {
+  int r = 0;
+  if (k < 0) { r = 1; } else { r = 2; }
+  switch (k == 1 ? 100 / x : 0) { case 1: r = 3; break; default: r = 4; }
+  if (k < 0) { r = 1; } else if (k == 0) { r = 2; } else { r = 5; }
+  if (k == 2 && id(9 % x) > 1) { r = 3; } else r = 6;
+  if (k == 3) { r = id(7 / x); }
+  if (r) { if (k) { r = 1; } else { r = 2; } } else { r = 3; }
+  while (k == 4 && r < id(6 / x)) { r++; }
+  if (k == 6) { r = 2; } else switch (k) { case 5: r = 5 / x; }
+  if (k == 7) r = 4 / x;
+  return r;
+}
+"""
+
+
+def behind_an_else(folder: str) -> Iterator[bool]:
+    """A statement behind an `else` is one of its own: each division there fails where x is 0, by hand, and none is `never`."""
+    put(folder, {"a.c": BEHIND_ELSE})
+    run(folder, ["rte", "f", "a.c", "-o", "d"])
+    rows = report(folder)["rows"]
+    places = ["5:24", "7:22", "8:26", "10:29", "11:58", "12:21"]
+    yield [(row["place"], row["verdict"]) for row in rows] == [(f"a.c:{place}", "fails") for place in places]
+    yield [(row["input"]["args"][0], row["input"]["args"][1]) for row in rows] == [(k, 0) for k in (1, 2, 3, 4, 5, 7)]
+
+
+def edges_are_those_of_the_program(folder: str) -> Iterator[bool]:
+    """An automaton that differs in one field of one edge from what the sources are read as is refused, whichever it is."""
+    import dataclasses
+
+    from fshell_tools.core import graph as graphs
+    from fshell_tools.core.program import Failure
+    from fshell_tools.order import statements, tokens
+    from fshell_tools.rte import lowering
+
+    put(folder, {"a.c": BEHIND_ELSE})
+    here = os.getcwd()
+    os.chdir(folder)
+    try:
+        graph = graphs.of_sources(["a.c"])
+        words = tokens.of_sources(["a.c"])
+        unit = statements.unit_of(words)
+    finally:
+        os.chdir(here)
+    yield len(lowering.of_unit(unit, graph, words).steps) == len(graph.edges)
+    changes: list[dict[str, Any]] = [
+        {"source": 9}, {"target": 1}, {"line": 3}, {"column": 4}, {"kind": "FOR"}, {"operation": "skip"}, {"reads": ("r",)},
+        {"writes": ("k",)},
+    ]  # fmt: skip
+    for number, edge in enumerate(graph.edges):
+        for change in changes:
+            other = dataclasses.replace(edge, **change)
+            if other == edge:
+                continue
+            graph.edges[number] = other
+            try:
+                lowering.of_unit(unit, graph, words)
+                yield False
+            except Failure as failure:
+                yield f"edge {number} at " in str(failure)
+        graph.edges[number] = edge
+    last = graph.edges.pop()
+    try:
+        lowering.of_unit(unit, graph, words)
+        yield False
+    except Failure as failure:
+        yield "more or fewer edges" in str(failure)
+    graph.edges.append(last)
+
+
+def a_step_without_operation(folder: str) -> Iterator[bool]:
+    """Where a run ends at a node of which no such operation is known, no row of that function is `never`, and those of others are."""
+    from fshell_tools.core.reports import Input
+    from fshell_tools.core.verdicts import Limits
+    from fshell_tools.rte.rows import Rows
+    from fshell_tools.rte.search import Failed, Known
+
+    operations, graph = found_by(
+        folder,
+        "int t[4];\nint g(int y) { return t[y & 3]; }\nint f(int x) {\n  int a = t[x & 3] + t[1];\n  return 8 / x + g(a);\n}\n",
+    )
+    (division,) = [one for one in operations if one.kind == "division"]
+    (node,) = division.nodes
+    refuted = {number for one in operations for number in one.nodes} - {node}
+    for end in ("trapped zero-divisor", "trapped index", "trapped assert"):
+        known = Known({one: one for one in range(len(graph.nodes))}, refuted, {node: Failed(Input((0,), ()), end)}, {})
+        rows = Rows(graph, operations, known, Limits(suffice=True)).rows()
+        verdicts = {row.place: row.verdict for row in rows}
+        if end == "trapped zero-divisor":
+            yield verdicts == {"a.c:2:24": "never", "a.c:4:12": "never", "a.c:4:23": "never", "a.c:5:12": "fails"}
+        else:
+            yield verdicts == {
+                "a.c:2:24": "never",
+                "a.c:4:12": "open",
+                "a.c:4:23": "open",
+                "a.c:5:12": "open",
+                "a.c:5": "fails",
+            }
+
+
+TRIED = [(GRAPH, wrong_words), (GRAPH, constants_that_fail), (GRAPH, another_order_fails), (GRAPH, behind_an_else),
+         (GRAPH, edges_are_those_of_the_program), (GRAPH, a_step_without_operation),
+         (GRAPH, planted_faults_are_red), (("graph", "gcc"), gcc_says_the_same),
          (GRAPH, certificates_stand_alone), (GRAPH, a_folder_goes_on), (GRAPH, an_input_that_is_wrong_isnt_told),
          (GRAPH, bounds_that_are_left), (GRAPH, an_order_restricts_its_statement), (GRAPH, any_ends), (GRAPH, a_budget_that_is_spent),
          (("graph", "gcc"), operations_of_one_step), (GRAPH, what_is_told_apart_is_right), (GRAPH, operations_have_their_nodes),

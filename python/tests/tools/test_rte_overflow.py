@@ -229,16 +229,17 @@ def a_broken_table_is_told(folder: str) -> Iterator[bool]:
 def verdicts_of(text: str) -> dict[int, str]:
     """What the comments behind lines say of their operations; a line without one has operations that never fail."""
     return {number: found[1] for number, line in enumerate(text.splitlines(), 1)
-            if (found := re.search(r"/\* (never|never within the bounds|fails|not reached|open) \*/", line))}  # fmt: skip
+            if (found := re.search(r"/\* (never|fails|not reached|open) \*/", line))}  # fmt: skip
 
 
 def eight_of_each_verdict(folder: str) -> Iterator[bool]:
+    """And sixteen that are open, eight of them since C leaves the order open by which they are called."""
     text = example("rte/gauge.c")
     put(folder, {"gauge.c": text})
     ended = run(folder, ["rte", "gauge", "gauge.c", "-o", "d"])
     due = verdicts_of(text)
     rows = report(folder)["rows"]
-    yield ended.returncode == 1 and "rows 40: 8 never, 8 never within the bounds, 8 fails, 8 not reached, 8 open\n" in ended.stdout
+    yield ended.returncode == 1 and "rows 40: 8 never, 8 fails, 8 not reached, 16 open\n" in ended.stdout
     yield all(row["verdict"] == due[int(row["place"].split(":")[1])] for row in rows)
     yield {int(row["place"].split(":")[1]) for row in rows} == set(due)
 
@@ -345,7 +346,7 @@ def other_programs_read_it(folder: str) -> Iterator[bool]:
     yield log["version"] == "2.1.0" and one["originalUriBaseIds"]["SRCROOT"][
         "uri"
     ] == f"file://{os.path.realpath(folder)}/"
-    levels = {"fails": "error", "open": "warning", "never within the bounds": "warning", "not reached": "note"}
+    levels = {"fails": "error", "open": "warning", "not reached": "note"}
     yield len(one["results"]) == len(rows) == 32
     for result, row in zip(one["results"], rows):
         place = result["locations"][0]["physicalLocation"]
@@ -360,13 +361,16 @@ def a_page_has_each_row(folder: str) -> Iterator[bool]:
     put(folder, {"gauge.c": example("rte/gauge.c")})
     run(folder, ["rte", "gauge", "gauge.c", "-o", "d"])
     ended = run(folder, ["page", "d", "-o", "p.html"])
-    counts = "8 fails, 8 open, 8 never within the bounds, 8 not reached, 8 never"
+    counts = "8 fails, 16 open, 0 never within the bounds, 8 not reached, 8 never"
     yield (ended.returncode, ended.stdout) == (0, f"p.html: 40 operations, {counts}\n")
     with open(os.path.join(folder, "p.html"), encoding="utf-8") as file:
         text = file.read()
     yield "http" not in text.replace("http-equiv", "") and text.count('<tr id="row-') == 40
     for mark, sign in (("never", "✓"), ("fails", "✗"), ("within", "⊘"), ("open", "?"), ("unreached", "∅")):
-        yield f'.tag.{mark}::before {{ content: "{sign}' in text and text.count(f'class="tag {mark} of-{mark}"') == 8
+        yield f'.tag.{mark}::before {{ content: "{sign}' in text and text.count(f'class="tag {mark} of-{mark}"') == {
+            "open": 16,
+            "within": 0,
+        }.get(mark, 8)
     commands = [line for line in re.findall(r"<pre>(.*?)</pre>", text) if line.startswith("fshell check")][:3]
     for line in commands:
         plain = line.replace("&#39;", "'").replace("&gt;", ">").replace("&lt;", "<").replace("&amp;", "&")
@@ -385,7 +389,9 @@ def a_page_has_each_row(folder: str) -> Iterator[bool]:
 def colours_have_contrast(folder: str) -> Iterator[bool]:
     from tests.tools.test_page import contrast
 
-    with open(os.path.join(environment.ROOT, "python", "fshell_tools", "coverage", "page", "rte.html"), encoding="utf-8") as file:
+    with open(
+        os.path.join(environment.ROOT, "python", "fshell_tools", "coverage", "page", "rte.html"), encoding="utf-8"
+    ) as file:
         text = file.read()
     themes = [
         dict(re.findall(r"--([a-z]+): (#[0-9a-f]{6});", rest))
