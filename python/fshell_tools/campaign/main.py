@@ -1,7 +1,7 @@
 """fshell campaign: has all goals of a query decided, in a folder, on as many processors and machines as there are.
 
 The given inputs are measured first, and where they miss goals one `generate` over all goals makes inputs for the easy ones. Each
-goal that is left is decided by `prove`, under GNU parallel, and its certificate checked by `check` in a process of its own; after
+goal that is left is decided by `prove`, and its certificate checked by `check`, each in a process of its own; after
 each round the new inputs are measured over all goals, so that goals which are hit by the way aren't searched. The folder then has
 inputs.json, suite.json (the reduced suite), certificates/, report.txt and report.json. A campaign that was stopped goes on with
 `-o DIR` alone. The status is 0, or 1 where a goal is undecided; with --at-least P it is 1 where less than P percent of the goals
@@ -9,22 +9,21 @@ that aren't unreachable are covered, where no such goal is left, and where there
 """
 
 import argparse
-import contextlib
+import concurrent.futures
 import dataclasses
 import fcntl
 import os
 import shutil
 import subprocess
 import sys
-import tempfile
 from collections.abc import Iterator
 from typing import IO
 
-from fshell_tools.campaign import source_changes
+from fshell_tools.campaign import logins, source_changes
 from fshell_tools.campaign.report import Told
 from fshell_tools.campaign.request import Asked, read_sums
 from fshell_tools.campaign.state_folder import STEPS, Folder
-from fshell_tools.core import argument_parsers, inputs, program, progress, verdicts
+from fshell_tools.core import argument_parsers, inputs, program, progress, snapshots, verdicts
 from fshell_tools.core.program import Failure
 from fshell_tools.core.reports import ENDS, Input, Report
 
@@ -51,8 +50,8 @@ def measured(asked: Asked, given: list[Input]) -> Report:
 class Campaign:
     """A campaign that goes on in its folder."""
 
-    def __init__(self, folder: Folder, jobs: int, logins: str | None) -> None:
-        self.folder, self.jobs, self.logins = folder, jobs, logins
+    def __init__(self, folder: Folder, jobs: int, machines: str | None) -> None:
+        self.folder, self.jobs, self.logins = folder, jobs, machines
         self.asked = folder.asked()
         self.tried: set[int] = set()
         self.inputs: list[Input] = []
@@ -81,36 +80,39 @@ class Campaign:
         return [goal for goal in missed if goal not in known]
 
     def search(self, left: list[int], size: int) -> None:
-        """Has goals decided under GNU parallel: all that `generate` refuted, which want their certificates, and some others."""
+        """Has goals decided: all that `generate` refuted, which want their certificates, and some others."""
         refuted = self.folder.known_refuted()
         easy = [goal for goal in left if goal in refuted]
-        hard = [goal for goal in left if goal not in refuted]
-        me = [sys.executable, program.PYTHON, "campaign", "-o", os.path.abspath(self.folder.path), "--one", "{}"]
-        words = [
-            "parallel",
-            "--will-cite",
-            "--jobs",
-            str(self.jobs),
-            "--joblog",
-            "+" + self.folder.at("machine", "joblog"),
-        ]
-        words += ["--sshloginfile", self.logins] if self.logins else []
-        words += ["-q", "env", f"FSHELL={program.program()}", *me]
-        text = "".join(",".join(map(str, batch)) + "\n" for batch in batches(easy, hard[:size], self.jobs))
-        before = self.folder.known()
+        hard = [goal for goal in left if goal not in refuted][:size]
+        wrong = self.on_logins(easy, hard, self.logins) if self.logins else self.here(easy + hard, refuted)
+        self.tried.update(easy + hard)
+        if wrong:
+            print(wrong[-1], file=sys.stderr)
+
+    def here(self, goals: list[int], refuted: set[int]) -> list[str]:
+        """Has goals decided by threads of this process; gives a line for each that isn't."""
         begun = self.progress.done
-        with tempfile.TemporaryFile("w+") as given, tempfile.TemporaryFile("w+") as said:
-            given.write(text)
-            given.seek(0)
-            ended = subprocess.Popen(words, stdin=given, stdout=subprocess.DEVNULL, stderr=said)
-            with ending(ended):
-                while waited(ended) is None:
-                    self.progress.at(begun + self.folder.known() - before)
-            said.seek(0)
-            lines = said.read().strip().splitlines()
-        self.tried.update(easy + hard[:size])
-        if ended.returncode:
-            print(lines[-1] if lines else "some goals weren't decided", file=sys.stderr)
+        wrong = []
+        with concurrent.futures.ThreadPoolExecutor(self.jobs) as pool:
+            waiting = [pool.submit(self.folder.decide, goal, goal in refuted) for goal in goals]
+            for count, one in enumerate(concurrent.futures.as_completed(waiting), 1):
+                failure = one.exception()
+                if isinstance(failure, Failure):
+                    wrong.append(f"campaign: {failure}")
+                elif failure:
+                    pool.shutdown(wait=False, cancel_futures=True)
+                    raise failure
+                self.progress.at(begun + count)
+        return wrong
+
+    def on_logins(self, easy: list[int], hard: list[int], machines: str) -> list[str]:
+        """Has goals decided on other machines; gives lines where some aren't."""
+        lines = [logins.line_of(self.folder.path, batch) for batch in batches(easy, hard, self.jobs)]
+        before, begun = self.folder.known(), self.progress.done
+        with logins.started(lines, self.jobs, machines, self.folder.at("machine", "joblog")) as (process, said):
+            while waited(process) is None:
+                self.progress.at(begun + self.folder.known() - before)
+        return (said or ["some goals weren't decided"]) if process.returncode else []
 
     def run(self) -> Report:
         """Goes on until something is known of each goal."""
@@ -124,17 +126,6 @@ class Campaign:
                     break
                 self.search(left, size)
         return report
-
-
-@contextlib.contextmanager
-def ending(process: "subprocess.Popen[bytes]") -> Iterator[None]:
-    """Ends a process where this one is stopped."""
-    try:
-        yield
-    except BaseException:
-        process.terminate()
-        process.wait()
-        raise
 
 
 def waited(process: "subprocess.Popen[bytes]") -> int | None:
@@ -204,6 +195,7 @@ def asked_by(given: argparse.Namespace) -> Asked:
     entry, query, *sources = given.words
     place = os.getcwd()
     program.check_names(sources)
+    snapshots.take(sources, place)
     sums = read_sums(tuple(sources), place)
     bounds = {name: value if getattr(given, name) is None else getattr(given, name) for name, value in DEFAULTS.items()}
     ends, budget = given.ends or "returned", given.budget or 5_000_000
@@ -234,8 +226,10 @@ def begun(given: argparse.Namespace, folder: Folder) -> None:
         asked = asked_by(given)
         measured(asked, read)
         folder.begin(with_meaning(asked), read)
+        folder.keep_sources(asked)
         return
     asked = folder.asked()
+    snapshots.take(asked.sources, asked.place)
     sums = read_sums(asked.sources, asked.place)
     if sums != asked.sums or given.budget or read:
         now = dataclasses.replace(asked, sums=sums, budget=given.budget or asked.budget)
@@ -243,6 +237,7 @@ def begun(given: argparse.Namespace, folder: Folder) -> None:
         folder.check_same(now)
         measured(now, read)
         folder.begin(now, read)
+    folder.keep_sources(asked)
 
 
 def locked(folder: Folder) -> IO[str]:
@@ -263,18 +258,24 @@ def has_parallel() -> bool:
     return "GNU parallel" in version.stdout
 
 
+def check_parallel() -> None:
+    """A failure where GNU parallel, which asks other machines, isn't there."""
+    if not has_parallel():
+        raise Failure("GNU parallel isn't there (Debian: apt-get install parallel), which asks other machines")
+
+
 def main() -> int:
     """Does a campaign and answers the exit status, as the module says. Raises Failure where GNU parallel is asked
     for and isn't there."""
     given = words()
     folder = Folder(given.folder)
     if given.one:
+        folder.take_sources(folder.asked())
         folder.decide_all(given.one)
         return program.DONE
     if given.sshloginfile:
         program.read(given.sshloginfile)
-    if not given.left and not has_parallel():
-        raise Failure("GNU parallel isn't there (Debian: apt-get install parallel)")
+        check_parallel()
     begun(given, folder)
     with locked(folder):
         folder.clean()

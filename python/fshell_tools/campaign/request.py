@@ -5,6 +5,7 @@ import os
 from dataclasses import dataclass
 
 from fshell_tools.campaign import source_changes
+from fshell_tools.core import snapshots
 from fshell_tools.core.program import Failure
 
 
@@ -57,7 +58,8 @@ def read_sums(sources: tuple[str, ...], place: str) -> tuple[str, ...]:
     for source in sources:
         path = os.path.join(place, source)
         try:
-            found.append(sum_of(path))
+            known = snapshots.held(path)
+            found.append(sum_of(path) if known is None else hashlib.sha256(known).hexdigest())
         except OSError as fault:
             raise Failure(f"{source}: {fault.strerror}") from None
     return tuple(found)

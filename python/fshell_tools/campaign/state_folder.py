@@ -5,6 +5,7 @@ stands there:
 
   campaign.json          what was asked, with the sums of the sources and of what they mean
   given.json             the inputs that were given
+  sources/SUM/           the sources that are judged, by their sum: a copy, so that edits meanwhile change nothing
   generated.json         what one `generate` over all goals answered at the begin, or how it was refused
   found/N                prove's line for goal N, with an input
   certificates/N.cert    prove's certificate for goal N, and N.sum, its sum, once `check` accepted it
@@ -19,8 +20,8 @@ import os
 import sys
 
 from fshell_tools.campaign import split_generate
-from fshell_tools.campaign.request import Asked, sum_of
-from fshell_tools.core import inputs, mcdc_report_reader, program
+from fshell_tools.campaign.request import Asked, read_sums, sum_of
+from fshell_tools.core import inputs, mcdc_report_reader, program, snapshots
 from fshell_tools.core.mcdc_report_reader import Conditions
 from fshell_tools.core.program import Failure
 from fshell_tools.core.reports import Input, Report, report_of_json
@@ -100,6 +101,18 @@ class Folder:
             return Asked(**{**value, **lists})
         except (ValueError, KeyError, TypeError):
             raise Failure(f"{self.at('campaign.json')} isn't a campaign's") from None
+
+    def keep_sources(self, asked: Asked) -> None:
+        """Keeps a copy of the sources that were taken, in a folder that is called by their sum. Raises OSError where it can't."""
+        snapshots.keep(asked.sources, asked.place, self.at("sources"))
+
+    def take_sources(self, asked: Asked) -> None:
+        """Takes the sources that were judged, as the folder has them. Raises Failure where they are gone, and the user's own are
+        others."""
+        if not snapshots.use(asked.sources, asked.sums, asked.place, self.at("sources")):
+            snapshots.take(asked.sources, asked.place)
+            if read_sums(asked.sources, asked.place) != asked.sums:
+                raise Failure(f"{self.path}: changed since it was made: {' '.join(asked.sources)}, and it has no copy of them")
 
     def given(self) -> list[Input]:
         """The inputs with which the campaign began."""

@@ -12,7 +12,7 @@ import re
 import sys
 from collections.abc import Iterator, Sequence
 
-from fshell_tools.core import argument_parsers, input_reader, program
+from fshell_tools.core import argument_parsers, input_reader, program, snapshots
 from fshell_tools.core import graph as graphs
 from fshell_tools.core.program import Failure
 from fshell_tools.core.reports import ENDS, Input, Report, Run, input_of, number, report_of_json, report_of_text
@@ -199,6 +199,7 @@ def main() -> int:
     """Writes inputs in the form that is asked for, as the module says; the status is 0."""
     given = words()
     has_entry = given.entry and given.source
+    snapshots.take(given.source)
     read = [
         one
         for path in given.files

@@ -13,6 +13,7 @@ import json
 import os
 import re
 import resource
+import signal
 import subprocess
 import sys
 import tempfile
@@ -20,6 +21,7 @@ from collections.abc import Callable, Iterator, Sequence
 from dataclasses import dataclass
 from typing import IO
 
+from fshell_tools.core import processes, snapshots
 from fshell_tools.core.reports import Report, report_of_json, report_of_text
 
 PACKAGE = os.path.dirname(os.path.dirname(os.path.realpath(__file__)))
@@ -74,10 +76,14 @@ def program() -> str:
 
 def started(words: Sequence[str], folder: str | None, stdout: int | IO[bytes]) -> subprocess.CompletedProcess[bytes]:
     """The program's process, at its end. A write past a limit of the file's size is a fault of the write, as by
-    bin/fshell. Raises Failure where it can't be started."""
+    bin/fshell. It reads the sources that were taken. Raises Failure where it can't be started, or may have read others."""
     try:
-        return subprocess.run([program(), *words], cwd=folder, stdin=subprocess.DEVNULL, stdout=stdout, stderr=subprocess.PIPE,
-                              check=False, restore_signals=False)  # fmt: skip
+        ended = processes.run([program(), *words], cwd=snapshots.folder_of(folder), stdin=subprocess.DEVNULL, stdout=stdout, stderr=subprocess.PIPE,
+                              restore_signals=False)  # fmt: skip
+        snapshots.check(folder)
+        return ended
+    except snapshots.Changed as change:
+        raise Failure(str(change)) from None
     except OSError as fault:
         raise Failure(f"the program can't be started: {fault.strerror}: {program()}") from None
 
@@ -135,7 +141,10 @@ def check_names(sources: Sequence[str]) -> None:
 
 
 def read(path: str) -> bytes:
-    """A file's bytes. Raises Failure where it can't be read."""
+    """A file's bytes, of one that was taken those that it had then. Raises Failure where it can't be read."""
+    known = snapshots.held(path)
+    if known is not None:
+        return known
     try:
         with open(path, "rb") as file:
             return file.read()
@@ -228,12 +237,37 @@ def _open_streams() -> None:
             stream.reconfigure(encoding="utf-8", errors="surrogateescape")
 
 
+def _told_changes(tool: str, status: int) -> int:
+    """A status, or that of a failure behind a line where sources aren't any more what was judged."""
+    names = list(snapshots.changed())
+    if not names:
+        return status
+    sys.stdout.flush()
+    line = f"changed meanwhile: {', '.join(names)}; what is reported is of the versions before, of sum {snapshots.taken_sum()}"
+    print(f"{tool}: {' '.join(line.splitlines())}", file=sys.stderr)
+    return FAILED
+
+
+def _stop(number: int, frame: object) -> None:
+    """What a signal does that stops a tool: the processes that it started are killed, and it ends."""
+    processes.stop()
+    raise KeyboardInterrupt
+
+
+def _take_signals() -> None:
+    """Has the signals that stop a tool end it with its processes; one that is ignored stays so."""
+    for number in (signal.SIGINT, signal.SIGTERM, signal.SIGHUP):
+        if signal.getsignal(number) != signal.SIG_IGN:
+            signal.signal(number, _stop)
+
+
 def ended(tool: str, main: Callable[[], int]) -> int:
     """The status of a tool; a failure is one line on standard error. One that can't write its answer has failed."""
     try:
         _open_streams()
+        _take_signals()
         try:
-            return main()
+            return _told_changes(tool, main())
         finally:
             sys.stdout.flush()
     except Failure as failure:

@@ -18,7 +18,7 @@ from collections.abc import Iterator
 from functools import cache
 
 from fshell_tools.bounds import sufficiency, unwinding_size
-from fshell_tools.core import argument_parsers, inputs, program, verdicts
+from fshell_tools.core import argument_parsers, inputs, program, snapshots, verdicts
 from fshell_tools.core import graph as graphs
 from fshell_tools.core.graph import Graph, Letter, Node
 from fshell_tools.core.program import Failure
@@ -213,6 +213,7 @@ def main() -> int:
     code = refused_code(given.what)
     if code and not given.entry:
         raise Failure(f"code {code} is of an entry; --entry names it")
+    snapshots.take(given.sources)
     automaton: Graph = graphs.of_sources(given.sources)
     if code:
         bounds = {name: int(getattr(given, name)) for name in BOUNDS}

@@ -15,7 +15,7 @@ from collections.abc import Iterator
 from dataclasses import dataclass, field
 
 from fshell_tools.bounds import sufficiency
-from fshell_tools.core import argument_parsers, inputs, program
+from fshell_tools.core import argument_parsers, inputs, program, snapshots
 from fshell_tools.core import graph as graphs
 from fshell_tools.core.graph import Edge, Graph
 from fshell_tools.core.program import Failure
@@ -197,6 +197,7 @@ def words() -> argparse.Namespace:
 def main() -> int:
     """Writes a tracefile, as the module says; the status is 0."""
     given = words()
+    snapshots.take(given.sources)
     graph = graphs.of_sources(given.sources)
     steps = ["--steps", str(given.steps)] if given.steps else []
     _, runs = inputs.runs_of(given.entry, given.inputs, given.sources, steps)

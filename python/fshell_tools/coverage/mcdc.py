@@ -16,7 +16,7 @@ import sys
 from fshell_tools.bounds import sufficiency
 from fshell_tools.bounds.sufficiency import Left
 from fshell_tools.campaign.state_folder import STEPS
-from fshell_tools.core import argument_parsers, inputs, program, progress, verdicts
+from fshell_tools.core import argument_parsers, inputs, program, progress, snapshots, verdicts
 from fshell_tools.core import graph as graphs
 from fshell_tools.core.graph import Graph
 from fshell_tools.core.program import Failure
@@ -79,7 +79,7 @@ def certify(given: argparse.Namespace, all_asked: list[Asked]) -> int:
             program.write_whole(
                 name, program.answer(["prove", *words, *given.sources, *options(given), "--budget", str(given.budget)])
             )
-            program.answer(["check", *words, name, *given.sources, *options(given)])
+            program.answer(["check", *words, os.path.abspath(name), *given.sources, *options(given)])
             count += 1
     return count
 
@@ -130,6 +130,7 @@ def main() -> int:
     """Decides all conditions and answers the exit status, as the module says. Raises Failure where there is no
     decision."""
     given = words()
+    snapshots.take(given.sources)
     graph = graphs.of_sources(given.sources)
     faces = Faces(graph, given.sources)
     decisions = [one for one in Decisions(graph, faces).found if not given.function or one.function in given.function]

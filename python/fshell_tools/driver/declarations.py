@@ -8,7 +8,7 @@ from collections.abc import Iterator
 from dataclasses import dataclass, field
 from typing import Any
 
-from fshell_tools.core import program
+from fshell_tools.core import processes, program
 from fshell_tools.core.program import Failure
 
 HEADERS = os.path.join(program.PACKAGE, "adapt", "headers")
@@ -43,7 +43,7 @@ def preprocessed(path: str, flags: list[str]) -> str:
         )
     program.read(path)
     words = [compiler, "-std=gnu11", "-nostdinc", "-E", *flags, "-isystem", HEADERS, "-x", "c", path]
-    ended = subprocess.run(
+    ended = processes.run(
         words, capture_output=True, text=True, errors="replace", check=False, env={**os.environ, "LC_ALL": "C"}
     )
     if ended.returncode:

@@ -10,7 +10,7 @@ import argparse
 import os
 from collections.abc import Iterator
 
-from fshell_tools.core import argument_parsers, declarations, inputs, program, source_map
+from fshell_tools.core import argument_parsers, declarations, inputs, program, snapshots, source_map
 from fshell_tools.core.reports import Input, Run
 from fshell_tools.core.sources import Source
 from fshell_tools.harness.c_text import HEAD, TESTS
@@ -112,6 +112,7 @@ def main() -> int:
     """Writes a harness, as the module says; the status is 0."""
     given = words()
     program.check_names(given.sources)
+    snapshots.take(given.sources)
     steps = ["--steps", str(given.steps)] if given.steps else []
     read, runs = inputs.runs_of(given.entry, given.inputs, given.sources, steps)
     sources = [Source(name, program.read(name)) for name in given.sources]

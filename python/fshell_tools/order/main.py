@@ -20,7 +20,7 @@ import sys
 from collections.abc import Iterable, Sequence
 from dataclasses import dataclass
 
-from fshell_tools.core import argument_parsers, original_sources, program
+from fshell_tools.core import argument_parsers, original_sources, program, snapshots
 from fshell_tools.core.program import Failure
 from fshell_tools.core.reports import ENDS
 from fshell_tools.order import statements, tokens
@@ -160,6 +160,7 @@ def parsed() -> argparse.Namespace:
 def main() -> int:
     """Prints the warnings; the status is 1 where there are some."""
     given = parsed()
+    snapshots.take(given.sources)
     told_of = warnings(given.entry, given.sources, given.query, given.ends, given.watch)
     found = [one.shown(given.sources) for one in told_of]
     if given.json:

@@ -1,5 +1,4 @@
-"""Has the goals of a query decided in a campaign's folder, as fshell campaign does, by threads of this process: most queries of a
-module have few goals, which take less time than GNU parallel does to start. Other machines are asked by GNU parallel."""
+"""Has the goals of a query decided in a campaign's folder, as fshell campaign does. What goes wrong with a goal ends the task."""
 
 import concurrent.futures
 import dataclasses
@@ -9,12 +8,11 @@ import os
 from typing import Any
 
 from fshell_tools.bounds.sufficiency import Left
-from fshell_tools.campaign.main import Campaign, has_parallel, sizes
+from fshell_tools.campaign.main import Campaign, check_parallel, sizes
 from fshell_tools.campaign.report import Told
 from fshell_tools.campaign.request import Asked
 from fshell_tools.campaign.state_folder import Folder
 from fshell_tools.core import inputs
-from fshell_tools.core.program import Failure
 from fshell_tools.core.reports import Input, Report
 from fshell_tools.order import main as order
 from fshell_tools.project.work_folder import Place
@@ -27,8 +25,7 @@ class Here(Campaign):
         """Has goals decided: those that were refuted before, and the first `size` of the others. Raises Failure where
         other machines are named and GNU parallel isn't there."""
         if self.logins:
-            if not has_parallel():
-                raise Failure("GNU parallel isn't there (Debian: apt-get install parallel), which asks other machines")
+            check_parallel()
             super().search(left, size)
             return
         refuted = self.folder.known_refuted()

@@ -13,7 +13,7 @@ import argparse
 import os
 import sys
 
-from fshell_tools.core import argument_parsers, program
+from fshell_tools.core import argument_parsers, program, snapshots
 from fshell_tools.core.program import Failure
 from fshell_tools.project import criteria, gate, runner, settings
 from fshell_tools.project import init as initial
@@ -106,6 +106,7 @@ def context_of(given: argparse.Namespace, work: Work) -> Context:
 def work_of(given: argparse.Namespace) -> Work:
     """The work folder, beside the settings where -o names none; nothing is made yet. Raises Failure where the settings
     can't be read."""
+    snapshots.take_file(given.file)
     program.read(given.file)
     return Work(given.work or os.path.join(os.path.dirname(os.path.abspath(given.file)), NAME))
 

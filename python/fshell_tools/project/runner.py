@@ -5,7 +5,7 @@ import os
 import shutil
 from collections.abc import Iterable
 
-from fshell_tools.core import inputs, program, progress
+from fshell_tools.core import inputs, program, progress, snapshots
 from fshell_tools.core.graph import Graph
 from fshell_tools.core.input_reader import Reader
 from fshell_tools.core.named_inputs import Named, Signature
@@ -23,6 +23,8 @@ from fshell_tools.project.work_folder import Work
 
 def _given(settings: Settings, work: Work, unit: Unit, graph: Graph, entry: Entry) -> tuple[list[Named], Signature]:
     """The given inputs of an entry, which are kept in the program's form as long as nothing has changed."""
+    for name in entry.inputs:
+        snapshots.take_file(settings.at(name), name)
     reader = Reader(unit.place, unit.sources, graph, entry.function)
     place = work.task(entry.function, "given")
     sums = [(name, sum_of_file(settings.at(name))) for name in entry.inputs]

@@ -10,7 +10,7 @@ from dataclasses import dataclass, field
 from fshell_tools.bounds import sufficiency
 from fshell_tools.bounds.sufficiency import Left
 from fshell_tools.campaign.request import Asked
-from fshell_tools.core import program
+from fshell_tools.core import processes, program
 from fshell_tools.core.graph import Graph
 from fshell_tools.core.named_inputs import Named, Signature
 from fshell_tools.core.program import Failure
@@ -250,7 +250,7 @@ class Mcdc(Task):
 def tool(name: str, words: list[str], folder: str) -> str:
     """What bin/NAME writes to standard output where it is called in `folder`. Raises Failure where it ends with another
     status than 0 or 1, with its last line."""
-    ended = subprocess.run(
+    ended = processes.run(
         [sys.executable, program.PYTHON, name, *words],
         cwd=folder,
         stdin=subprocess.DEVNULL,
@@ -261,7 +261,8 @@ def tool(name: str, words: list[str], folder: str) -> str:
     if ended.returncode not in (program.DONE, program.OPEN):
         lines = ended.stderr.strip().splitlines() or [f"it ended with status {ended.returncode}"]
         raise Failure(f"bin/{name}: {lines[-1].removeprefix(f'{name}: ')}")
-    return ended.stdout
+    told: str = ended.stdout
+    return told
 
 
 def name_of(text: str) -> str:

@@ -10,7 +10,7 @@ import sys
 from dataclasses import asdict, dataclass
 
 from fshell_tools.core import graph as graphs
-from fshell_tools.core import program
+from fshell_tools.core import processes, program, snapshots
 from fshell_tools.core.graph import Graph
 from fshell_tools.core.program import Failure
 from fshell_tools.project.settings import Module, Settings
@@ -55,6 +55,9 @@ def sum_of_text(text: str) -> str:
 
 def sum_of_file(path: str) -> str:
     """The SHA-256 sum of a file's bytes, in hexadecimal digits, or nothing where it can't be read."""
+    known = snapshots.held(path)
+    if known is not None:
+        return hashlib.sha256(known).hexdigest()
     try:
         with open(path, "rb") as file:
             return hashlib.file_digest(file, "sha256").hexdigest()
@@ -83,12 +86,17 @@ def kept(settings: Settings, place: str) -> Unit | None:
 
 
 def made(settings: Settings, place: str) -> Unit:
-    """The unit of a module: the one that stands in `place`, or a new one, which is put there whole. Raises Failure
-    where the program refuses the sources and they aren't to be adapted, or two have one name, and Faults with what
-    fshell adapt refuses."""
-    found = kept(settings, place)
-    if found:
-        return found
+    """The unit of a module: the one that stands in `place`, or a new one, which is put there whole. Files that aren't
+    any more what it was made of are told at the end. Raises Failure and Faults as `_made` does."""
+    found = kept(settings, place) or _made(settings, place)
+    for name, known in found.read.items():
+        snapshots.watch(settings.at(name), name, known)
+    return found
+
+
+def _made(settings: Settings, place: str) -> Unit:
+    """A new unit, which is put into `place` whole. Raises Failure where the program refuses the sources and they aren't
+    to be adapted, or two have one name, and Faults with what fshell adapt refuses."""
     new = place + ".new"
     shutil.rmtree(new, ignore_errors=True)
     os.makedirs(new)
@@ -146,7 +154,8 @@ def _adapted(settings: Settings, place: str, refusal: str) -> Unit:
     flags += [word for one in module.defines for word in ("-D", one)]
     answered = [word for name in module.answered for word in ("--input", name)]
     words = [sys.executable, program.PYTHON, "adapt", *module.all_sources, *flags, *answered]
-    ended = subprocess.run(
+    read = _sums(settings)
+    ended = processes.run(
         [*words, "-o", os.path.abspath(place)],
         cwd=settings.folder,
         stdin=subprocess.DEVNULL,
@@ -161,9 +170,15 @@ def _adapted(settings: Settings, place: str, refusal: str) -> Unit:
     line = next((one for one in ended.stdout.splitlines() if one.startswith("wrote ")), "wrote ")
     paths = line.removeprefix("wrote ").replace(os.path.abspath(place) + os.sep, "\0").split("\0")
     names = tuple(name.strip() for name in paths[1:])
-    read = {name: sum_of_file(settings.at(name)) for name in _read_by_compiler(settings)}
+    if read != _sums(settings):
+        raise Failure("the sources changed while fshell adapt read them")
     own = {os.path.basename(name): name for name in reversed(list(read)) if os.path.basename(name) in names}
     return Unit(place, names, own, read, refusal, _key(module))
+
+
+def _sums(settings: Settings) -> dict[str, str]:
+    """The SHA-256 sum of each file of the module that fshell adapt reads."""
+    return {name: sum_of_file(settings.at(name)) for name in _read_by_compiler(settings)}
 
 
 def _read_by_compiler(settings: Settings) -> list[str]:
@@ -172,7 +187,7 @@ def _read_by_compiler(settings: Settings) -> list[str]:
     compiler = shutil.which("gcc") or shutil.which("clang")
     for source in settings.module.all_sources if compiler else ():
         words = [str(compiler), "-MM", "-MG", "-MT", "x", *_flags(settings.module), source]
-        told = subprocess.run(words, cwd=settings.folder, capture_output=True, text=True, check=False).stdout
+        told = processes.run(words, cwd=settings.folder, capture_output=True, text=True, check=False).stdout
         names = told.replace("\\\n", " ").partition(":")[2].split()
         found |= dict.fromkeys(name for name in names if os.path.isfile(settings.at(name)))
     return list(found)

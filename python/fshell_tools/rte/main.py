@@ -25,7 +25,7 @@ from fshell_tools.bounds.sufficiency import Left
 from fshell_tools.campaign.main import DEFAULTS, locked, measured
 from fshell_tools.campaign.request import Asked, read_sums
 from fshell_tools.campaign.state_folder import Folder
-from fshell_tools.core import argument_parsers, inputs, program
+from fshell_tools.core import argument_parsers, inputs, program, snapshots
 from fshell_tools.core import graph as graphs
 from fshell_tools.core.graph import Graph
 from fshell_tools.core.program import Failure
@@ -75,6 +75,7 @@ def asked_by(given: argparse.Namespace) -> Asked:
     line feed."""
     sources, place = tuple(given.sources), os.getcwd()
     program.check_names(sources)
+    snapshots.take(sources, place)
     bounds = {name: getattr(given, name) for name in DEFAULTS}
     return Asked(given.entry, ENDINGS, sources, place, read_sums(sources, place), bounds, given.ends, given.budget)
 
@@ -170,6 +171,7 @@ def main() -> int:
     folder.begin(asked, [])
     with locked(folder):
         folder.clean()
+        folder.keep_sources(asked)
         left = bounds_of(graph, folder, asked)
         limits, warned = evaluation_order.limits_of(left.limits, asked)
         left = dataclasses.replace(left, limits=limits)

@@ -10,7 +10,7 @@ import shutil
 import subprocess
 from collections.abc import Iterator, Sequence
 
-from fshell_tools.core import declarations, program
+from fshell_tools.core import declarations, processes, program
 from fshell_tools.core.program import Failure
 from fshell_tools.core.reports import Input
 from fshell_tools.core.sources import Source
@@ -110,7 +110,7 @@ def compiled(folder: str, header: str) -> str:
     if not shutil.which("gcc"):
         raise Failure("gcc isn't there (Debian: apt-get install gcc)")
     path = os.path.join(folder, NAME)
-    ended = subprocess.run(command(folder, header), capture_output=True, text=True, check=False)
+    ended = processes.run(command(folder, header), capture_output=True, text=True, check=False)
     if ended.returncode:
         wrong = [line for line in ended.stderr.splitlines() if "error" in line] or ended.stderr.splitlines() or ["?"]
         raise Failure(f"gcc doesn't compile {path}.c: {wrong[0][:200]}")
@@ -123,7 +123,7 @@ def confirmed(folder: str, header: str, count: int) -> Iterator[str]:
     path = compiled(folder, header)
     for number in range(1, count + 1):
         try:
-            ended = subprocess.run(
+            ended = processes.run(
                 [path, str(number)], capture_output=True, text=True, errors="replace", timeout=SECONDS, check=False
             )
         except subprocess.TimeoutExpired:

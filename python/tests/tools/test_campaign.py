@@ -19,29 +19,28 @@ REFUTED = [9, 10]
 # which a budget of 1 is too small for
 SLOW = "int f(int a, int b) {\n  if (a > 1 && b > 1 && a * b == 7919 * 7907) {\n    return 1;\n  }\n  return 0;\n}\n"
 NONE = {"covered": 0, "missed": 0, "undecided": 0, "refuted within the bounds": 0, "unreachable": 0}
-PARALLEL = ("parallel",)
 CASES = [
     Case("campaign: a query that is refused", ["campaign", "fee", "cover", "fee.c", "-o", "new"], FEE, 2, "",
-         "campaign: fshell measure: error 61 QuerySyntax query\n", needs=PARALLEL),
+         "campaign: fshell measure: error 61 QuerySyntax query\n"),
     Case("campaign: a source that isn't there", ["campaign", "fee", "cover ID", "no.c", "-o", "new"], FEE, 2, "",
-         "campaign: no.c: No such file or directory\n", needs=PARALLEL),
+         "campaign: no.c: No such file or directory\n"),
     Case("campaign: inputs that aren't read", ["campaign", "fee", "cover ID", "fee.c", "-o", "new", "--inputs", "fee.c"], FEE, 2, "",
-         "campaign: fee.c: no inputs are read: '/*' is no number\n", needs=PARALLEL),
+         "campaign: fee.c: no inputs are read: '/*' is no number\n"),
     Case("campaign: an entry that isn't there leaves no folder", ["campaign", "fees", "cover ID", "fee.c", "-o", "new"], FEE, 2, "",
-         "campaign: fshell measure: error 36 NoSuchEntry\n", needs=PARALLEL),
+         "campaign: fshell measure: error 36 NoSuchEntry\n"),
     Case("campaign: inputs of another function leave no folder", ["campaign", "fee", "cover ID", "fee.c", "-o", "new", "--inputs", "in"],
-         {**FEE, "in": "1\n"}, 2, "", "campaign: fshell measure: error 51 Shape input 1\n", needs=PARALLEL),
+         {**FEE, "in": "1\n"}, 2, "", "campaign: fshell measure: error 51 Shape input 1\n"),
     Case("campaign: a file in the folder's place", ["campaign", "fee", "cover ID", "fee.c", "-o", "in.txt"], FEE, 2, "",
-         "campaign: in.txt/found: Not a directory\n", needs=PARALLEL),
+         "campaign: in.txt/found: Not a directory\n"),
     Case("campaign: logins that aren't there", ["campaign", "fee", "cover ID", "fee.c", "-o", "new", "--sshloginfile", "no"], FEE, 2, "",
-         "campaign: no: No such file or directory\n", needs=PARALLEL),
+         "campaign: no: No such file or directory\n"),
     Case("campaign: a source whose name has a line feed", ["campaign", "f", "cover ID", "a\nb.c", "-o", "new"],
-         {"a\nb.c": "int f(int x) { return x; }\n"}, 2, "", "campaign: the name of a source has a line feed\n", needs=PARALLEL),
+         {"a\nb.c": "int f(int x) { return x; }\n"}, 2, "", "campaign: the name of a source has a line feed\n"),
     *(Case(f"campaign: {' '.join(words)} is out of range", ["campaign", "fee", "cover ID", "fee.c", "-o", "new", *words], FEE, 2, "", None)
       for words in (["--jobs", "0"], ["--jobs", "-1"], ["--turns", "1001"], ["--frames", "0"], ["--answers", "257"], ["--budget", "0"],
                     ["--budget", "20000001"], ["--at-least", "nan"], ["--at-least", "101"])),
     Case("campaign: a folder that is no campaign's", ["campaign", "-o", "new"], FEE, 2, "",
-         "campaign: new/campaign.json: No such file or directory\n", needs=PARALLEL),
+         "campaign: new/campaign.json: No such file or directory\n"),
 ]  # fmt: skip
 
 
@@ -219,7 +218,7 @@ def killed_at_any_moment_it_goes_on(folder: str) -> Iterator[bool]:
             os.remove(path) if chance.random() < 0.5 else os.truncate(path, os.path.getsize(path) // 2)
     ended = subprocess.run([*words, *first], cwd=folder, capture_output=True, text=True, timeout=SECONDS)
     yield ended.returncode == 0 and is_right(folder)
-    # (GNU parallel gives each job a process group of its own, so that one may outlive the kill, and be writing still)
+    # (what is killed by its guard may be writing still for a moment)
     for _ in range(100):
         half = [
             name for _, _, names in os.walk(os.path.join(folder, "new")) for name in names if name.startswith(".new")
@@ -258,7 +257,7 @@ def goals_are_decided_one_by_one(folder: str) -> Iterator[bool]:
     yield campaign(folder).returncode == 0 and is_right(folder)
 
 
-TRIED = [(PARALLEL, function) for function in (
+TRIED = [(("parallel",) if function is two_machines_share_the_work else (), function) for function in (
     a_campaign_decides_all_goals, given_inputs_are_completed, it_goes_on_with_inputs_but_not_with_other_bounds, undecided_goals_and_the_gate, another_campaigns_folder_is_left_alone,
     files_that_were_removed_or_cut_are_made_anew, inputs_that_were_cut_are_found_anew, killed_at_any_moment_it_goes_on, two_machines_share_the_work,
     bounds_that_suffice_are_told, goals_are_decided_one_by_one)] + test_campaign_gates.TRIED  # fmt: skip

@@ -7,7 +7,7 @@ import resource
 import subprocess
 from collections.abc import Iterator
 
-from tests.tools import example, put, run
+from tests.tools import Tried, example, put, run
 
 SUM = """int sum(int n) {
   int s = 0;
@@ -178,6 +178,6 @@ def many_easy_goals_take_few_seconds(folder: str) -> Iterator[bool]:
     yield after.ru_utime + after.ru_stime - before.ru_utime - before.ru_stime < 10
 
 
-TRIED = [(("parallel",), function) for function in (
+TRIED: Tried = [((), function) for function in (
     a_gate_without_a_test_fails, bounds_that_are_left_are_named, a_folder_is_the_same_with_any_jobs, comments_may_change,
     line_breaks_of_a_query_make_no_lines, many_easy_goals_take_few_seconds)]  # fmt: skip

@@ -178,4 +178,4 @@ def what_cant_be_split_is_asked_whole(folder: str) -> Iterator[bool]:
 
 
 TRIED: Tried = [((), function) for function in (a_line_each_ten_seconds, one_line_on_a_terminal, tools_tell_on_a_terminal_alone, rte_tells_on_a_terminal, what_cant_be_split_is_asked_whole)]  # fmt: skip
-TRIED += [(("parallel",), function) for function in (a_campaign_tells_on_a_terminal, a_generate_over_many_goals_is_split_and_joined)]  # fmt: skip
+TRIED += [((), function) for function in (a_campaign_tells_on_a_terminal, a_generate_over_many_goals_is_split_and_joined)]  # fmt: skip

@@ -9,6 +9,7 @@ from dataclasses import dataclass
 from typing import NamedTuple
 
 from fshell_tools.adapt.common.refusals import Stop
+from fshell_tools.core import processes
 
 EVERY = (("gcc", "-O0"), ("gcc", "-O2"), ("clang", "-O0"), ("clang", "-O2"))
 TIME_IS_UP = (-27, -14)  # (SIGPROF, and SIGALRM where a run waits)
@@ -89,7 +90,7 @@ class Build:
         with open(given, "w", encoding="ascii") as file:
             file.write("".join(line + "\n" for line in lines))
         words = [self.at(program), given, str(seconds)]
-        ended = subprocess.run(words, capture_output=True, check=False, env={**os.environ, "ASAN_OPTIONS": QUIET})
+        ended = processes.run(words, capture_output=True, check=False, env={**os.environ, "ASAN_OPTIONS": QUIET})
         parts = re.split(r"\n=(-?\d+)\n", ended.stdout.decode(errors="replace"))
         runs = [Run(int(status), text.split("\n")) for text, status in zip(parts[0::2], parts[1::2])]
         if len(runs) != len(lines):
@@ -104,7 +105,9 @@ def compiled(words: Sequence[str], out: str, texts: Sequence[str]) -> str:
         paths.append(f"{out}_{number}.c")
         with open(paths[-1], "w", encoding="utf-8", errors="surrogateescape") as file:
             file.write(text)
-    ended = subprocess.run([*words, "-o", out, *paths], capture_output=True, text=True, errors="replace", check=False)
+    ended: subprocess.CompletedProcess[str] = processes.run(
+        [*words, "-o", out, *paths], capture_output=True, text=True, errors="replace", check=False
+    )
     if not ended.returncode:
         return ""
     told = [line for line in ended.stderr.splitlines() if "error:" in line or "undefined" in line]
@@ -171,5 +174,7 @@ def all_built(
 
 def version_of(compiler: str) -> str:
     """The first line of what a compiler says of itself."""
-    ended = subprocess.run([compiler, "--version"], capture_output=True, text=True, errors="replace", check=False)
+    ended: subprocess.CompletedProcess[str] = processes.run(
+        [compiler, "--version"], capture_output=True, text=True, errors="replace", check=False
+    )
     return (ended.stdout.splitlines() or ["?"])[0]

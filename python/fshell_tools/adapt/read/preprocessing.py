@@ -12,6 +12,7 @@ from fshell_tools.adapt.common.paths import HEADERS, MODELS
 from fshell_tools.adapt.common.refusals import JUDGED, Refusals, Stop
 from fshell_tools.adapt.common.unit import Unit
 from fshell_tools.adapt.read import gnu
+from fshell_tools.core import processes
 
 ERRORS = (
     "implicit-function-declaration",
@@ -105,7 +106,7 @@ def run_compiler(path: str, flags: list[str], more: list[str]) -> subprocess.Com
     """Runs the compiler on a source with our headers alone."""
     words = [compiler(), "-std=gnu11", "-nostdinc", *more, *flags, "-isystem", HEADERS, "-x", "c", path]
     plain = {**os.environ, "LC_ALL": "C"}
-    return subprocess.run(  # (bytes that aren't UTF-8 stay what they are)
+    return processes.run(  # (bytes that aren't UTF-8 stay what they are)
         words, capture_output=True, encoding="utf-8", errors="surrogateescape", check=False, env=plain
     )
 

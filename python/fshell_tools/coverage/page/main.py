@@ -10,7 +10,7 @@ import argparse
 import os
 from collections import Counter
 
-from fshell_tools.core import argument_parsers, program, progress, templates, verdicts
+from fshell_tools.core import argument_parsers, program, progress, snapshots, templates, verdicts
 from fshell_tools.core import graph as graphs
 from fshell_tools.core.program import Failure
 from fshell_tools.core.progress import Progress
@@ -96,6 +96,7 @@ def main() -> int:
     sources, place = reports[0].sources, reports[0].place
     if any(one.sources != sources or one.place != place for one in reports):
         raise Failure("the reports are of different sources")
+    snapshots.take(sources, place)
     graph = graphs.of_sources(sources, place)
     for one in reports:
         if not one.verdicts:

@@ -9,6 +9,7 @@ import shutil
 import subprocess
 from collections.abc import Iterator
 
+from fshell_tools.core import processes
 from fshell_tools.core.graph import Edge
 from fshell_tools.core.verdicts import Verdict
 from fshell_tools.coverage.page.data import Page
@@ -34,7 +35,7 @@ def svg(text: str) -> str:
     """The picture of a graph, whose text graphviz reads, as SVG; or why there is none, as a paragraph of HTML."""
     if not shutil.which("dot"):
         return "<p>There is no picture, since graphviz isn't there (Debian: graphviz).</p>"
-    drawn = subprocess.run(["dot", "-Tsvg"], input=text, capture_output=True, text=True, check=False)
+    drawn = processes.run(["dot", "-Tsvg"], input=text, capture_output=True, text=True, check=False)
     found = re.search(r"<svg.*</svg>", drawn.stdout, re.DOTALL)
     return found[0] if found else f"<p>{html.escape(drawn.stderr[:200])}</p>"
 

@@ -7,8 +7,9 @@ import shlex
 from dataclasses import dataclass, field
 
 from fshell_tools.bounds import sufficiency
+from fshell_tools.campaign.request import Asked, read_sums
 from fshell_tools.campaign.state_folder import STEPS, Folder
-from fshell_tools.core import inputs, mcdc_report_reader, program, verdicts
+from fshell_tools.core import inputs, mcdc_report_reader, program, snapshots, verdicts
 from fshell_tools.core.graph import Graph
 from fshell_tools.core.program import Failure
 from fshell_tools.core.reports import BOUNDS, Goal, Input, Report
@@ -52,6 +53,13 @@ class Shown:
         self.verdicts = [verdicts.of_word(goal.verdict, limits) for goal in self.report.goals]
 
 
+def take_judged(folder: Folder, asked: Asked) -> None:
+    """Takes the sources that a folder's report is of; where the user's own are others by now, that is told at the end."""
+    folder.take_sources(asked)
+    for name, known in zip(asked.sources, asked.sums):
+        snapshots.watch(os.path.join(asked.place, name), name, known)
+
+
 def of_campaign(path: str) -> Shown:
     """The report in a campaign's folder. Raises Failure where it has none."""
     folder = Folder(path)
@@ -66,6 +74,7 @@ def of_campaign(path: str) -> Shown:
     except (ValueError, KeyError, TypeError):
         raise Failure(f"{path} has no whole report.json") from None
     given = inputs.of_file(folder.at("inputs.json"))
+    take_judged(folder, asked)
     sources = list(asked.sources)
     return Shown(path, report, sources, asked.entry, asked.query, given, asked.place, path, said, bounds)
 
@@ -77,6 +86,9 @@ def shown(name: str, query: str, given: argparse.Namespace) -> Shown:
     conditions = mcdc_report_reader.of_file(name)
     if conditions:
         sources = given.source or list(conditions.sources)
+        snapshots.take(sources)
+        if read_sums(tuple(sources), ".") != conditions.sums:
+            raise Failure(f"{name}: it is of other sources than {' '.join(sources)} as they are")
         made = conditions.given
         return Shown(name, conditions.report(), sources, conditions.entry, "", made, ".", "", conditions.verdicts)
     report = report_of(name)

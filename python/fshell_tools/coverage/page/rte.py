@@ -7,9 +7,11 @@ from dataclasses import dataclass, field
 from typing import Any
 
 from fshell_tools.bounds import sufficiency
+from fshell_tools.campaign.state_folder import Folder
 from fshell_tools.core import program, source_map, templates
 from fshell_tools.core.program import Failure
 from fshell_tools.core.reports import BOUNDS
+from fshell_tools.coverage.page.report_context import take_judged
 from fshell_tools.rte import checked_calls, search
 from fshell_tools.rte.rows import Verdict
 
@@ -73,6 +75,8 @@ class Page:
             self.value = json.loads(program.read(os.path.join(folder, "rte.json")))
             self.asked = json.loads(program.read(os.path.join(folder, "campaign.json")))
             self.entry, self.bounds, self.ends = (self.value[name] for name in ("entry", "bounds", "ends"))
+            folder_of = Folder(folder)
+            take_judged(folder_of, folder_of.asked())
             self.said = list(sufficiency.of_value(self.value["limits"]).lines())
             self.files = self.files_of([*self.value["sources"], *self.originals()])
             self.rows = [self.row(number, row) for number, row in enumerate(self.value["rows"], 1)]

@@ -1,0 +1,138 @@
+"""That the tools hold: what folders are called, processes that are killed, and sources that change while a tool works."""
+
+import contextlib
+import os
+import shutil
+import signal
+import subprocess
+import time
+from collections.abc import Iterator
+
+from tests import environment
+from tests.tools import example, put, run, test_campaign
+
+FEE = {"fee.c": example("criteria/fee.c")}
+# names of folders that GNU parallel would expand, or run as Perl
+NAMES = (
+    "c{=system(qq(touch PWNED))=}",
+    "c{= $_=`touch PWNED` =}x",
+    "{}",
+    "{#}",
+    "{%}",
+    "{.}{//}",
+    "a b'c\"d$(touch PWNED)`",
+)
+# a product of 60 bits, which no search of the budget finds
+HARD = """int f(unsigned long a, unsigned long b) {
+  if (a > 1000000ul && b > 1000000ul && a < 4000000000ul && b < 4000000000ul && a * b == 1000000016000000063ul) {
+    return 1;
+  }
+  return 0;
+}
+"""
+SSH = '#!/bin/sh\nshift\n[ "$1" != -- ] || shift\nexec sh -c "$*"\n'
+
+
+def made(folder: str, name: str, files: dict[str, str]) -> str:
+    """A folder of a hostile name in another one, with files."""
+    path = os.path.join(folder, name)
+    os.makedirs(path, exist_ok=True)
+    put(path, files)
+    return path
+
+
+def is_touched(folder: str) -> bool:
+    """Whether a command in a name was run: its file is somewhere."""
+    homes = (folder, os.path.expanduser("~"), environment.ROOT)
+    names = [name for at, _, names in os.walk(folder) for name in names]
+    return "PWNED" in names or any(os.path.exists(os.path.join(home, "PWNED")) for home in homes)
+
+
+def names_are_only_names(folder: str) -> Iterator[bool]:
+    """A campaign in a folder, and of a folder, of a name that GNU parallel would expand decides all goals."""
+    for name in NAMES:
+        inner = made(folder, name, FEE)
+        ended = run(inner, ["campaign", "-o", f"new{name}", "--jobs", "2", "fee", test_campaign.PAIRS, "fee.c"])
+        yield ended.returncode == 0 and " 10 covered, 0 undecided" in ended.stdout
+    yield not is_touched(folder)
+
+
+def names_are_only_names_on_other_machines(folder: str) -> Iterator[bool]:
+    """The same over logins, with a program that is in such a folder."""
+    for name in NAMES:
+        inner = made(folder, name, {**FEE, "ssh": SSH})
+        os.chmod(os.path.join(inner, "ssh"), 0o755)
+        put(folder, {"logins": "2/:\n"})
+        program = os.path.join(inner, "program")
+        os.symlink(environment.program(), program)
+        words = [
+            "campaign",
+            "-o",
+            "new",
+            "--jobs",
+            "2",
+            "--sshloginfile",
+            os.path.join(folder, "logins"),
+            "fee",
+            test_campaign.PAIRS,
+            "fee.c",
+        ]
+        ended = run(inner, words, env={**os.environ, "FSHELL": program})
+        yield ended.returncode == 0 and " 10 covered, 0 undecided" in ended.stdout
+    yield not is_touched(folder)
+
+
+def left_in(folder: str) -> list[int]:
+    """The processes that name a folder in their words, or work in it."""
+    found = []
+    for number in filter(str.isdigit, os.listdir("/proc")):
+        with contextlib.suppress(OSError):
+            with open(f"/proc/{number}/cmdline", "rb") as file:
+                words = file.read().split(b"\0")
+            if os.readlink(f"/proc/{number}/cwd").startswith(folder) or any(
+                os.fsencode(folder) in one for one in words
+            ):
+                found.append(int(number))
+    return [number for number in found if number != os.getpid()]
+
+
+def ends_with(started: "subprocess.Popen[bytes]", folder: str, number: int) -> bool:
+    """Whether all that a tool started in a folder ends with it, once a signal has ended the tool itself."""
+    deadline = time.monotonic() + 60
+    while len(left_in(folder)) < 3 and time.monotonic() < deadline:
+        time.sleep(0.05)
+    time.sleep(0.3)
+    had = len(left_in(folder))
+    os.kill(started.pid, number)
+    started.wait(60)
+    deadline = time.monotonic() + 5
+    while left_in(folder) and time.monotonic() < deadline:
+        time.sleep(0.05)
+    left = left_in(folder)
+    for one in left:
+        with contextlib.suppress(OSError):
+            os.kill(one, signal.SIGKILL)
+    return had >= 3 and not left
+
+
+def killed_runs_leave_no_jobs(folder: str) -> Iterator[bool]:
+    """The searches of a campaign, here and on other machines, of mcdc and of rte end with the tool, whatever ends it."""
+    put(folder, {"hard.c": HARD, "ssh": SSH, "logins": f"2/{folder}/ssh one\n"})
+    os.chmod(os.path.join(folder, "ssh"), 0o755)
+    query, hard = "cover @CONDITIONEDGE", ["--budget", "20000000"]
+    campaign = ["campaign", "-o", "new", "--jobs", "2", "f", query, "hard.c", *hard]
+    for words in (campaign, [*campaign, "--sshloginfile", "logins"], ["mcdc", "f", "hard.c", *hard]):
+        for number in (signal.SIGKILL, signal.SIGTERM, signal.SIGINT):
+            launcher = os.path.join(environment.ROOT, "bin", words[0])
+            started = subprocess.Popen([launcher, *words[1:]], cwd=folder, stdin=subprocess.DEVNULL,
+                                       stdout=subprocess.DEVNULL, stderr=subprocess.DEVNULL)  # fmt: skip
+            yield ends_with(started, folder, number)
+            yield started.returncode == (-number if number == signal.SIGKILL else 2)
+            shutil.rmtree(os.path.join(folder, "new"), ignore_errors=True)
+
+
+TRIED = [
+    ((), names_are_only_names),
+    (("parallel",), names_are_only_names_on_other_machines),
+    (("parallel",), killed_runs_leave_no_jobs),
+]
