@@ -1,7 +1,9 @@
-"""The line behind a refusal: on a terminal, and never elsewhere."""
+"""The line behind a refusal of the program: on a terminal or not, and none where FSHELL_HINTS is 0."""
 
 import os
 import pty
+import re
+import shlex
 import subprocess
 from collections.abc import Iterator, Sequence
 
@@ -38,12 +40,14 @@ ROWS = [
 ]  # fmt: skip
 
 
+WITH_HINTS = {name: value for name, value in os.environ.items() if name != "FSHELL_HINTS"}
+
+
 def on_a_terminal(folder: str, words: Sequence[str]) -> tuple[str, str, int]:
     """What standard output and a terminal as standard error get, and the status."""
     master, slave = pty.openpty()
-    ended = subprocess.run(
-        [environment.LAUNCHER, *words], cwd=folder, stdin=subprocess.DEVNULL, stdout=subprocess.PIPE, stderr=slave
-    )
+    ended = subprocess.run([environment.LAUNCHER, *words], cwd=folder, env=WITH_HINTS, stdin=subprocess.DEVNULL, stdout=subprocess.PIPE,
+                           stderr=slave)  # fmt: skip
     os.close(slave)
     said = b""
     try:
@@ -55,7 +59,7 @@ def on_a_terminal(folder: str, words: Sequence[str]) -> tuple[str, str, int]:
     return ended.stdout.decode(), said.decode().replace("\r\n", "\n"), ended.returncode
 
 
-def a_terminal_has_a_line_more(folder: str) -> Iterator[bool]:
+def a_refusal_has_a_line_more(folder: str) -> Iterator[bool]:
     put(
         folder,
         {
@@ -70,10 +74,15 @@ def a_terminal_has_a_line_more(folder: str) -> Iterator[bool]:
     for words, line, begin, parts in ROWS:
         ended = run(folder, [*words])
         yield (ended.stdout, ended.stderr) == ("", line + "\n")
+        piped = run(folder, [*words], env=WITH_HINTS)
         stdout, said, status = on_a_terminal(folder, words)
+        yield (piped.stdout, piped.stderr, piped.returncode) == (stdout, said, status)
         lines = said.splitlines()
         yield (stdout, status, len(lines), lines[0]) == ("", ended.returncode, 2, line)
         yield lines[1].startswith("fshell: " + begin) and all(part in lines[1] for part in parts)
+    # a source outside of the profile is led on, with commands that can be pasted
+    (adapting, starting) = re.findall(r"`fshell (\w+ .*?)`", run(folder, ["goals", "cover ID", "float.c"], env=WITH_HINTS).stderr)[-2:]
+    yield run(folder, shlex.split(adapting)).returncode in (0, 3) and starting == "init float.c"
     # what isn't refused has none
     yield on_a_terminal(folder, ["goals", "cover @LINE(5)", "sum.c"]) == ("goals 1\ngoal 1 e1@sum.c:5\n", "", 0)
 
@@ -91,4 +100,4 @@ def a_trace_file_of_another_system_is_told(folder: str) -> Iterator[bool]:
     ).stderr == "explain: own: it is no report: it is a trace file; replay measures it\n"
 
 
-TRIED = [((), a_terminal_has_a_line_more), (("graph",), a_trace_file_of_another_system_is_told)]
+TRIED = [(("pycparser", "gcc"), a_refusal_has_a_line_more), (("graph",), a_trace_file_of_another_system_is_told)]

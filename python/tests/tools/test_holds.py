@@ -123,8 +123,8 @@ def killed_runs_leave_no_jobs(folder: str) -> Iterator[bool]:
     campaign = ["campaign", "-o", "new", "--jobs", "2", "f", query, "hard.c", *hard]
     for words in (campaign, [*campaign, "--sshloginfile", "logins"], ["mcdc", "f", "hard.c", *hard]):
         for number in (signal.SIGKILL, signal.SIGTERM, signal.SIGINT):
-            launcher = os.path.join(environment.ROOT, "bin", words[0])
-            started = subprocess.Popen([launcher, *words[1:]], cwd=folder, stdin=subprocess.DEVNULL,
+            launcher = os.path.join(environment.ROOT, "bin", "fshell")
+            started = subprocess.Popen([launcher, *words], cwd=folder, stdin=subprocess.DEVNULL,
                                        stdout=subprocess.DEVNULL, stderr=subprocess.DEVNULL)  # fmt: skip
             yield ends_with(started, folder, number)
             yield started.returncode == (-number if number == signal.SIGKILL else 2)

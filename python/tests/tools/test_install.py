@@ -208,7 +208,7 @@ def a_package_is_refused(folder: str) -> Iterator[bool]:
         (["--maintainer", "me"], "me isn't of the form NAME <MAIL>"),
     ):
         ended = run(folder, ["package", *words])
-        yield ended.returncode == 2 and ended.stderr.endswith(f"package: error: {line}\n")
+        yield ended.returncode == 2 and ended.stderr.endswith(f"fshell package: error: {line}\n")
     ended = run(folder, ["package", "-o", "nowhere"])
     yield (ended.returncode, ended.stderr) == (2, "package: nowhere: there is no such folder\n") and os.listdir(
         folder

@@ -64,7 +64,7 @@ def wrong_words(folder: str) -> Iterator[bool]:
     for words in ("", "k", "k a.c --ends some", "k a.c --no"):
         ended = run(folder, ["order", *words.split()])
         yield ended.returncode == 2 and ended.stdout == "" and ended.stderr.splitlines()[-1].startswith(
-            "order: error: "
+            "fshell order: error: "
         )
 
 

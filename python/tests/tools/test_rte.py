@@ -160,7 +160,7 @@ def wrong_words(folder: str) -> Iterator[bool]:
     """What isn't called as it is told is one line behind the usage, and status 2."""
     for words in ("", "f", "f a.c", "f a.c -o d --ends returned", "f a.c -o d --turns x"):
         ended = run(folder, ["rte", *words.split()])
-        yield ended.returncode == 2 and ended.stdout == "" and ended.stderr.splitlines()[-1].startswith("rte: error: ")
+        yield ended.returncode == 2 and ended.stdout == "" and ended.stderr.splitlines()[-1].startswith("fshell rte: error: ")
         yield not os.path.exists(os.path.join(folder, "d"))
 
 

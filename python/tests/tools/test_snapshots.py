@@ -75,7 +75,7 @@ def answered(folder: str, tool: str, at: int, back: int = NEVER) -> tuple[int, s
 
 
 def runs_of(folder: str) -> int:
-    """How often the program was run."""
+    """How many runs of the program a folder has a note of."""
     return len(os.listdir(os.path.join(folder, "runs")))
 
 
