@@ -126,11 +126,12 @@ def asked(
     place: str | None = None,
     *,
     query: str | None,
-    ends: str,
+    ends: str = "returned",
 ) -> Left:
-    """What the program says of bounds; where it names an input that leaves them, its run is counted. Where they suffice, what
-    the query refutes over runs with these ends is unreachable, unless C leaves an order of evaluation open that matters.
-    Where the query isn't known it is None."""
+    """What the program says of bounds; where it names an input that leaves them, its run is counted. Where they suffice, it is said
+    whether C leaves an order of evaluation open that matters for what the query refutes over runs with these ends; for goals that
+    no run of any end hits that is what matters for runs that return (docs/ORDER.md). Where the query isn't known it is None.
+    """
     words = ["bounds", entry, *sources, *options_of(bounds), "--budget", str(budget)]
     return of_answer(program.answer(words, place).strip(), graph, entry, sources, bounds, place, query=query, ends=ends)
 

@@ -5,7 +5,8 @@ goal that is left is decided by `prove`, and its certificate checked by `check`,
 each round the new inputs are measured over all goals, so that goals which are hit by the way aren't searched. The folder then has
 inputs.json, suite.json (the reduced suite), certificates/, report.txt and report.json. A campaign that was stopped goes on with
 `-o DIR` alone. The status is 0, or 1 where a goal is undecided; with --at-least P it is 1 where less than P percent of the goals
-that aren't unreachable are covered, where no such goal is left, and where there is no input.
+that aren't unreachable are covered, where no such goal is left, where there is no input, and where a run is found that a trap ends,
+which --allow-traps doesn't name.
 """
 
 import argparse
@@ -170,6 +171,8 @@ def parser_of_words() -> argument_parsers.Parser:
     parser.add_argument("--sshloginfile", metavar="FILE", help="the machines, as GNU parallel reads them")
     gate = "the status is 1 where less than P percent are covered"
     parser.add_argument("--at-least", type=verdicts.percent, metavar="P", help=gate)
+    allowed = "a trap at this place (FILE:LINE) or in this function doesn't fail the gate; again for others"
+    parser.add_argument("--allow-traps", action="append", default=[], metavar="NAME", help=allowed)
     counted = "a report of mcdc as JSON, whose conditions are counted too, and must pass the gate"
     parser.add_argument("--mcdc", metavar="FILE", help=counted)
     parser.add_argument("--left", action="store_true", help="only prints the goals that are left, a line each")
@@ -289,6 +292,6 @@ def main() -> int:
         report = campaign.run()
         told = Told(folder, campaign.asked, campaign.inputs, report)
         told.write()
-    line, status = told.judged(given.at_least)
+    line, status = told.judged(given.at_least, given.allow_traps)
     print(told.text() + line, end="")
     return status

@@ -2,10 +2,13 @@
 
 import dataclasses
 import json
-from collections.abc import Iterator
+import shlex
+from collections.abc import Iterable, Iterator
 
 from fshell_tools.bounds import sufficiency
+from fshell_tools.bounds.other_ends import Ending
 from fshell_tools.bounds.sufficiency import Left
+from fshell_tools.campaign.other_runs import OtherRuns, names_of, not_allowed
 from fshell_tools.campaign.request import Asked
 from fshell_tools.campaign.state_folder import Folder
 from fshell_tools.core import comparison_report, inputs, program, verdicts
@@ -22,6 +25,10 @@ class Told:
         self.refuted = set(folder.refuted(asked))
         self.open = folder.open(asked.budget)
         self.left = self.bounds() if self.refuted else None
+        self.others = OtherRuns(folder, asked, made)
+        limits = self.left.limits if self.left else verdicts.UNKNOWN
+        self.unhit = self.others.judged(report.goals, self.refuted, limits)
+        self.traps = self.others.traps(ending for _, ending in self.unhit.values())
         self.verdicts = [self.verdict(goal) for goal in report.goals]
         self.tally = verdicts.tally(self.verdicts)
         self.conditions = folder.conditions(asked)
@@ -38,24 +45,32 @@ class Told:
             asked.budget,
             asked.place,
             query=asked.query,
-            ends=asked.ends,
         )
 
     def verdict(self, goal: Goal) -> Verdict:
         """The verdict of a goal: undecided, unless an input was found or a certificate accepted."""
         if goal.verdict == "covered":
             return Verdict.COVERED
-        if goal.number in self.refuted:
-            return verdicts.of_word("refuted", self.left.limits if self.left else verdicts.UNKNOWN)
-        return Verdict.UNDECIDED
+        return self.unhit[goal.number][0] if goal.number in self.unhit else Verdict.UNDECIDED
+
+    def certificate(self, goal: int) -> str:
+        """The path of a goal's certificate from the folder: of runs of any end, where there is one, else of those that count."""
+        return self.others.certificates.get(goal, f"certificates/{goal}.cert")
+
+    def ending(self, goal: int) -> Ending | None:
+        """The run that shows that a goal is hit by runs that don't count, if it does."""
+        return self.unhit[goal][1] if goal in self.unhit else None
 
     # ---- as text
 
     def line(self, goal: Goal, verdict: Verdict) -> str:
         """What report.txt says of a goal: its verdict, and the input, the certificate or why it is open."""
         behind = f" by input {goal.input}" if goal.input else ""
-        if verdict in (Verdict.REFUTED, Verdict.UNREACHABLE):
-            behind = f", certificates/{goal.number}.cert"
+        ending = self.ending(goal.number)
+        if ending:
+            behind = f", {ending.text}"
+        elif verdict in verdicts.UNHIT:
+            behind = f", {self.certificate(goal.number)}"
         elif verdict is Verdict.UNDECIDED:
             behind = f", {self.open.get(goal.number, 'prove failed')}"
         return f"goal {goal.number}: {verdict}{behind}: {' '.join(goal.text.splitlines())}"
@@ -87,6 +102,10 @@ class Told:
         if self.conditions:
             yield f"MC/DC: {self.conditions.tally.text('conditions')}"
             yield f"MC/DC: {self.conditions.tally.line('conditions')}"
+        yield from (f"trap {number}: {one.text}" for number, one in enumerate(self.traps, 1))
+        if self.traps:
+            words = ["fshell", "runs", asked.entry, self.folder.at("traps.json"), *asked.sources]
+            yield f"traps are repeated by {shlex.join(words)}"
 
     def text(self) -> str:
         """What report.txt is: all lines, each with its end."""
@@ -101,8 +120,13 @@ class Told:
         if goal.input:
             value["input"] = goal.input
         elif goal.number in self.refuted:
-            value["certificate"] = f"certificates/{goal.number}.cert"
-        return value
+            value["certificate"] = self.certificate(goal.number)
+        ending = self.ending(goal.number)
+        return value | ({"run": ending.value()} if ending else {})
+
+    def trap_value(self, one: Ending) -> dict[str, object]:
+        """What report.json says of a run that a trap ends, with the names by which a gate may allow it."""
+        return one.value() | {"names": names_of(self.others.faces, one)}
 
     def limits_value(self) -> dict[str, object]:
         """What is known of the bounds as JSON; null where it wasn't asked."""
@@ -122,6 +146,7 @@ class Told:
             counts["mcdc"] = {one: self.conditions.tally.counts[one] for one in Verdict}
         rests = comparison_report.values(asked.sources, asked.place)
         named |= {"compared": rests} if rests else {}
+        named |= {"traps": [self.trap_value(one) for one in self.traps]} if self.traps else {}
         return (
             json.dumps(named | self.limits_value() | {"goals": goals, "counts": counts, "suite": self.report.suite})
             + "\n"
@@ -135,11 +160,12 @@ class Told:
         program.write_whole(folder.at("inputs.json"), inputs.json_text(self.made))
         suite = [self.made[one - 1] for one in self.report.suite]
         program.write_whole(folder.at("suite.json"), inputs.json_text(suite))
+        program.write_whole(folder.at("traps.json"), inputs.json_text([one.input for one in self.traps]))
         program.write_whole(folder.at("report.json"), self.json())
         program.write_whole(folder.at("report.txt"), self.text())
 
-    def judged(self, at_least: float | None) -> tuple[str, int]:
-        """The line of the gate, if there is one, and the status."""
+    def judged(self, at_least: float | None, allowed: Iterable[str] = ()) -> tuple[str, int]:
+        """The line of the gate, if there is one, and the status; traps that aren't `allowed` by name fail it."""
         if at_least is None:
             is_open = self.tally.is_open or (self.conditions is not None and self.conditions.tally.is_open)
             return "", program.OPEN if is_open else program.DONE
@@ -147,4 +173,6 @@ class Told:
         if self.conditions:
             made = len(self.conditions.given)
             why += [f"MC/DC: {one}" for one in verdicts.failures(self.conditions.tally, at_least, made)]
+        found = not_allowed(self.others.faces, self.traps, allowed) if self.traps else []
+        why += [f"a run is {one.end} at {one.place}" for one in found]
         return verdicts.gate_line(at_least, why) + "\n", program.OPEN if why else program.DONE

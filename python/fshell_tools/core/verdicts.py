@@ -1,9 +1,10 @@
 """What is said of goals: one vocabulary for all tools, what a percentage is of, and when a gate passes.
 
-`refuted within the bounds` is what the program says of a goal: no run within the bounds hits it. `unreachable` is said of it only
-where `bounds` says that no run at all leaves the same bounds, and nothing restricts that (`Limits.restriction`). A percentage is
-covered of the goals less the unreachable ones; a goal that is refuted within the bounds alone stays in the denominator, since an
-input may hit it beyond them.
+`refuted within the bounds` is what the program says of a goal: no counted run within the bounds hits it. `unreachable` is said of
+it only where no run of any end hits it, `bounds` says that no run at all leaves the same bounds, and nothing restricts that
+(`Limits.restriction`). A goal that runs hit which don't return `fails before it returns`; one that blocked runs alone hit is
+`outside of the assumptions`; where neither is known, it is `refuted for runs that return` (docs/VERDICTS.md). A percentage is
+covered of the goals less the unreachable ones and those outside of the assumptions.
 """
 
 import argparse
@@ -22,16 +23,29 @@ class Verdict(enum.StrEnum):
     MISSED = "missed"
     UNDECIDED = "undecided"
     REFUTED = "refuted within the bounds"
+    RETURNING = "refuted for runs that return"
+    FAILS = "fails before it returns"
+    OUTSIDE = "outside of the assumptions"
     UNREACHABLE = "unreachable"
 
     @property
     def mark(self) -> str:
         """The verdict in one word, as the program writes it, for options and styles."""
-        return "refuted" if self is Verdict.REFUTED else self.value
+        return _MARKS.get(self.value, self.value)
 
 
+_MARKS = {
+    "refuted within the bounds": "refuted",
+    "refuted for runs that return": "returning",
+    "fails before it returns": "fails",
+    "outside of the assumptions": "outside",
+}
 # the words of the program's reports
-WORDS = {verdict.mark: verdict for verdict in Verdict if verdict is not Verdict.UNREACHABLE}
+WORDS = {one.mark: one for one in (Verdict.COVERED, Verdict.MISSED, Verdict.UNDECIDED, Verdict.REFUTED)}
+# what stands behind a certificate that no counted run hits the goal
+UNHIT = (Verdict.REFUTED, Verdict.RETURNING, Verdict.FAILS, Verdict.OUTSIDE, Verdict.UNREACHABLE)
+# what no percentage is of
+LEFT_OUT = (Verdict.UNREACHABLE, Verdict.OUTSIDE)
 
 
 @dataclass(frozen=True)
@@ -54,10 +68,9 @@ class Limits:
 UNKNOWN = Limits()
 
 
-def of_word(word: str, limits: Limits = UNKNOWN) -> Verdict:
-    """The verdict that a word of the program's report means, by what is known of its bounds; KeyError where it is none."""
-    verdict = WORDS[word]
-    return Verdict.UNREACHABLE if verdict is Verdict.REFUTED and limits.make_unreachable else verdict
+def of_word(word: str) -> Verdict:
+    """The verdict that a word of the program's report means by itself; KeyError where it is none."""
+    return WORDS[word]
 
 
 @dataclass(frozen=True)
@@ -73,8 +86,8 @@ class Tally:
 
     @property
     def reachable(self) -> int:
-        """The goals of which a percentage is taken: all but the unreachable ones."""
-        return self.goals - self.counts[Verdict.UNREACHABLE]
+        """The goals of which a percentage is taken: all but the unreachable ones and those outside of the assumptions."""
+        return self.goals - sum(self.counts[one] for one in LEFT_OUT)
 
     @property
     def is_open(self) -> bool:
@@ -85,7 +98,8 @@ class Tally:
         """The percentage in words."""
         covered, of_all = self.counts[Verdict.COVERED], self.reachable
         part = f", {percentage(covered, of_all)}" if of_all else ""
-        return f"covered {covered} of {of_all} {what} that aren't unreachable{part}"
+        others = " or outside of the assumptions" if self.counts[Verdict.OUTSIDE] else ""
+        return f"covered {covered} of {of_all} {what} that aren't unreachable{others}{part}"
 
     def text(self, what: str = "goals") -> str:
         """The number of goals of each verdict that there is, and of those that are covered or undecided in any case."""
@@ -122,7 +136,8 @@ def failures(found: Tally, at_least: float, made: int) -> list[str]:
     if not found.goals:
         why.append("the query has no goal, so nothing was tested")
     elif not found.reachable:
-        why.append("each goal is unreachable, so nothing is left to be covered")
+        outside = " or outside of the assumptions" if found.counts[Verdict.OUTSIDE] else ""
+        why.append(f"each goal is unreachable{outside}, so nothing is left to be covered")
     elif 100 * covered < at_least * found.reachable:
         why.append(f"{percentage(covered, found.reachable)} is less than {at_least:g}%: {covered} of {found.reachable}")
     if not made:

@@ -4,7 +4,8 @@ WHAT is a query, or a file with a report of `measure`, `generate`, `goals`, `run
 input. SOURCE.. are the sources that the report is about. Each goal is told with what its letters are: the place as
 FILE:LINE:COLUMN, the function, the condition with its outcome or what else is done, and the statement; of a covered goal also
 its input. A report of `measure` or `trees` has no inputs and no paths of runs in it: with --entry and --inputs they are told too.
-With --entry, `bounds` is asked of a report with refuted goals, so that they are told as unreachable, or which bound is left.
+With --entry, `bounds` and runs of any end are asked of a report with refuted goals, so that they are told as unreachable, as hit by
+runs that don't return, or which bound is left.
 WHAT may be the code 80 or 81, or a file with its refusal: with --entry and the bounds it says which loops and calls multiply the pairs
 of node and context, the largest first.
 """
@@ -17,15 +18,18 @@ import sys
 from collections.abc import Iterator
 from functools import cache
 
-from fshell_tools.bounds import sufficiency, unwinding_size
+from fshell_tools.bounds import other_ends, sufficiency, unwinding_size
+from fshell_tools.bounds.other_ends import Ending
 from fshell_tools.core import argument_parsers, inputs, program, snapshots, verdicts
 from fshell_tools.core import graph as graphs
 from fshell_tools.core.graph import Graph, Letter, Node
 from fshell_tools.core.program import Failure
 from fshell_tools.core.reports import BOUNDS, Goal, Input, Report, Run, report_of_json, report_of_text
 from fshell_tools.core.sources import Faces
-from fshell_tools.core.verdicts import Limits, Verdict
+from fshell_tools.core.verdicts import Verdict
 
+# what is said of refuted goals by their numbers, and the run that shows it
+Judged = dict[int, tuple[Verdict, Ending | None]]
 OPENED = {"trapped", "blocked", "too-deep"}
 
 
@@ -108,16 +112,17 @@ class Explained:
     """Writes what fshell explain says of goals and of where runs stood, line by line."""
 
     def __init__(
-        self, faces: Faces, entry: str, report: Report, given: list[Input], runs: list[Run], limits: Limits
+        self, faces: Faces, entry: str, report: Report, given: list[Input], runs: list[Run], judged: Judged
     ) -> None:
-        self.faces, self.entry, self.report, self.limits = faces, entry, report, limits
+        self.faces, self.entry, self.report, self.judged = faces, entry, report, judged
         self.inputs = report.inputs or given
         self.runs = runs
 
     def goal(self, goal: Goal) -> Iterator[str]:
         """The lines of a goal. Raises Failure where the report names an edge or node that the automaton hasn't."""
-        verdict = verdicts.of_word(goal.verdict, self.limits) if goal.verdict else ""
-        verdict += f" by input {goal.input}" if goal.input else ""
+        said, ending = self.judged.get(goal.number, (None, None))
+        verdict = str(said or (verdicts.of_word(goal.verdict) if goal.verdict else ""))
+        verdict += f" by input {goal.input}" if goal.input else f", {ending.text}" if ending else ""
         yield f"goal {goal.number}: {verdict}" if verdict else f"goal {goal.number}:"
         try:
             letters = graphs.letters(self.faces.graph, goal.text)
@@ -155,27 +160,33 @@ class Explained:
 WITHIN = "refuted goals have no run within the bounds; with --entry, bounds is asked whether a run leaves them"
 
 
-def counts(report: Report, limits: Limits) -> str:
+def counts(report: Report, judged: Judged) -> str:
     """How many goals have which verdict, in one line."""
-    found = verdicts.tally(verdicts.of_word(goal.verdict, limits) for goal in report.goals if goal.verdict)
+    found = verdicts.tally(verdict_of(goal, judged) for goal in report.goals if goal.verdict)
     told = ", ".join(f"{found.counts[one]} {one}" for one in Verdict if found.counts[one])
     return f"{len(report.goals)} goals" + (f": {told}" if told else "")
 
 
-def bounds_of(given: argparse.Namespace, graph: Graph, report: Report) -> tuple[Limits, list[str]]:
-    """What is known of the bounds of a report with refuted goals, and what is said of them."""
+def bounds_of(given: argparse.Namespace, faces: Faces, report: Report) -> tuple[Judged, list[str]]:
+    """What is known of the refuted goals of a report, and what is said of its bounds."""
     if not report.count("refuted"):
-        return verdicts.UNKNOWN, []
+        return {}, []
     if not given.entry:
-        return verdicts.UNKNOWN, [WITHIN]
+        return {}, [WITHIN]
     budget = report.bounds.get("budget", 5_000_000)
-    left = sufficiency.asked(graph, given.entry, given.sources, report.bounds, budget, query=None, ends=report.ends)
-    return left.limits, list(left.lines())
+    left = sufficiency.asked(faces.graph, given.entry, given.sources, report.bounds, budget, query=None)
+    judged = other_ends.of_report(faces, given.entry, given.sources, report, left.limits)
+    return judged, list(left.lines())
 
 
-def is_of(goal: Goal, limits: Limits, mark: str) -> bool:
+def verdict_of(goal: Goal, judged: Judged) -> Verdict:
+    """What is said of a goal; KeyError where nothing is said of it."""
+    return judged[goal.number][0] if goal.number in judged else verdicts.of_word(goal.verdict)
+
+
+def is_of(goal: Goal, judged: Judged, mark: str) -> bool:
     """Whether a goal has the verdict that a word of --only means."""
-    return bool(goal.verdict) and verdicts.of_word(goal.verdict, limits).mark == mark
+    return bool(goal.verdict) and verdict_of(goal, judged).mark == mark
 
 
 def parser_of_words() -> argument_parsers.Parser:
@@ -226,13 +237,14 @@ def main() -> int:
     if given.inputs:
         steps = ["--steps", str(given.steps)] if given.steps else []
         read, runs = inputs.runs_of(given.entry, given.inputs, given.sources, steps)
-    limits, said = bounds_of(given, automaton, report)
+    faces = Faces(automaton, given.sources)
+    judged, said = bounds_of(given, faces, report)
     if given.only:
-        report.goals = [goal for goal in report.goals if is_of(goal, limits, given.only)]
-    explained = Explained(Faces(automaton, given.sources), given.entry, report, read, runs, limits)
+        report.goals = [goal for goal in report.goals if is_of(goal, judged, given.only)]
+    explained = Explained(faces, given.entry, report, read, runs, judged)
     print("".join(line + "\n" for line in explained.lines()), end="")
     if report.goals:
-        print(counts(report, limits))
+        print(counts(report, judged))
     if report.count("refuted"):
         print("".join(line + "\n" for line in said), end="")
     return program.DONE

@@ -3,24 +3,28 @@
 A line is one on which a step of a statement stands; it counts as often as the place of control on it that runs left most often.
 A branch is a guard, so each part of a condition has two, and each label of a `switch`: the one where it holds, then the other.
 With --refuted FILE, a report of `generate ENTRY "cover ID" SOURCE..`, a branch that is unreachable, and a line on which each step
-is, is left out, with a note: refuted there, where `bounds` says that no run leaves the report's bounds. Another report is refused;
+is, is left out, with a note: refuted there, also for runs that don't return, where `bounds` says that no run leaves the report's
+bounds. What runs take that don't return stays, with a note that names one. Where the bounds don't suffice the report is refused;
 --bounds-are-enough takes it all the same, and stands as a comment in the tracefile.
 """
 
 import argparse
+import dataclasses
 import os
 import sys
 from collections import Counter
 from collections.abc import Iterator
 from dataclasses import dataclass, field
 
-from fshell_tools.bounds import sufficiency
+from fshell_tools.bounds import other_ends, sufficiency
+from fshell_tools.bounds.other_ends import Ending
 from fshell_tools.core import argument_parsers, inputs, program, snapshots
 from fshell_tools.core import graph as graphs
 from fshell_tools.core.graph import Edge, Graph
 from fshell_tools.core.program import Failure
-from fshell_tools.core.reports import BOUNDS, ENDS, Report, Run
+from fshell_tools.core.reports import BOUNDS, ENDS, Goal, Report, Run
 from fshell_tools.core.sources import Faces
+from fshell_tools.core.verdicts import Verdict
 from fshell_tools.coverage.explain import report_of
 
 LOOPS = ("FOR", "WHILE", "DO")
@@ -142,11 +146,13 @@ def refuted_edges(graph: Graph, report: Report) -> set[int]:
 
 @dataclass(frozen=True)
 class LeftOut:
-    """The edges that are left out, why, in words that follow `left out`, and the comment of the tracefile, if any."""
+    """The edges that are left out, why, in words that follow `left out`, and the comment of the tracefile, if any. `stays` says why
+    others aren't left out, though the report refutes them, a line each."""
 
     edges: set[int] = field(default_factory=set)
     why: str = ""
     comment: str = ""
+    stays: tuple[str, ...] = ()
 
 
 def left_out(given: argparse.Namespace, graph: Graph, runs: list[Run]) -> LeftOut:
@@ -159,21 +165,49 @@ def left_out(given: argparse.Namespace, graph: Graph, runs: list[Run]) -> LeftOu
     budget = report.bounds.get("budget", 5_000_000)
     said = None
     if edges:
-        said = sufficiency.asked(graph, given.entry, given.sources, report.bounds, budget, query="", ends=report.ends)
+        said = sufficiency.asked(graph, given.entry, given.sources, report.bounds, budget, query="")
     for run in runs:
         for number in sorted(edges & set(run.edges)):
             raise Failure(
                 f"{given.refuted}: it refutes e{number}@{graph.edges[number].place}, which input {run.number} takes"
             )
-    if not said or said.limits.make_unreachable:
-        return LeftOut(edges, "since no input reaches it")
-    if not given.bounds_are_enough:
+    if not said:
+        return LeftOut()
+    if not said.limits.make_unreachable and not given.bounds_are_enough:
         why = "; ".join(said.lines())
         raise Failure(
             f"{given.refuted}: what it refutes may be reached: {why} (--bounds-are-enough takes it all the same)"
         )
+    enough = dataclasses.replace(said.limits, suffice=True, restriction="")
+    faces = Faces(graph, given.sources)
+    judged = other_ends.of_report(faces, given.entry, given.sources, report, enough)
+    unreachable = {edge_of(graph, goal).number for goal in report.goals if is_unreachable(judged, goal)}
+    stays = tuple(stays_line(faces, edge_of(graph, goal), *judged[goal.number]) for goal in report.goals
+                  if goal.number in judged and not is_unreachable(judged, goal))  # fmt: skip
+    if said.limits.make_unreachable:
+        return LeftOut(unreachable, "since no run takes it", stays=stays)
     why = f"since it is refuted within {bounds}, which are taken to be enough"
-    return LeftOut(edges, why, f"# what is refuted within {bounds} is left out: --bounds-are-enough\n")
+    return LeftOut(unreachable, why, f"# what is refuted within {bounds} is left out: --bounds-are-enough\n", stays)
+
+
+def edge_of(graph: Graph, goal: Goal) -> Edge:
+    """The edge of a goal of one edge. ValueError where it is another goal."""
+    edge = graphs.letters(graph, goal.text)[0].edge
+    if not edge:
+        raise ValueError(goal.text)
+    return edge
+
+
+def is_unreachable(judged: dict[int, tuple[Verdict, Ending | None]], goal: Goal) -> bool:
+    """Whether a goal is unreachable by what is said of the refuted ones."""
+    return goal.number in judged and judged[goal.number][0] is Verdict.UNREACHABLE
+
+
+def stays_line(faces: Faces, edge: Edge, verdict: Verdict, ending: Ending | None) -> str:
+    """Why an edge that a report refutes isn't left out."""
+    truth = f" {'true' if edge.truth else 'false'}" if edge.is_guard else ""
+    why = f", {ending.text}" if ending else ""
+    return f"not left out: {faces.place(edge)}{truth}: {verdict}{why}"
 
 
 def parser_of_words() -> argument_parsers.Parser:
@@ -210,5 +244,6 @@ def main() -> int:
     program.give(left.comment + text, given.out)
     told = [f"{len(counted)} of {len(runs)} runs count: {totals.text()}"]
     told += [f"left out, {left.why}: {one}" for one in coverage.excluded]
+    told += dict.fromkeys(left.stays)
     print("\n".join(told), file=sys.stderr if given.out is None else sys.stdout)
     return program.DONE

@@ -3,20 +3,24 @@
 from collections.abc import Iterator
 from dataclasses import dataclass, field
 
+from fshell_tools.bounds.other_ends import Ending
 from fshell_tools.core import graph as graphs
 from fshell_tools.core.graph import Edge, Graph
 from fshell_tools.core.reports import Report, Run
+from fshell_tools.core.verdicts import Verdict
 from fshell_tools.coverage.decisions import Decision
 
 TAKEN, REFUTED, UNDECIDED = "taken", "refuted", "undecided"
 SHOWN, NONE = "shown", "none"
 MOST_ARROWS = 3
+# of several verdicts the one that is said, the first that is there
+WORST = (Verdict.FAILS, Verdict.REFUTED, Verdict.RETURNING, Verdict.OUTSIDE, Verdict.UNREACHABLE)
 
 
 @dataclass
 class Asked:
     """What is known of a decision: its query and the report on it, for each path an input or the goals that refute it, and why it
-    can't be asked for, if so."""
+    can't be asked for, if so. `judged` has what is said of refuted goals by runs of any end (bounds/other_ends)."""
 
     decision: Decision
     query: str
@@ -25,6 +29,7 @@ class Asked:
     goals: dict[int, list[int]] = field(default_factory=dict)
     told: dict[int, "Shown"] = field(default_factory=dict)
     why: str = ""
+    judged: dict[int, tuple[Verdict, Ending | None]] = field(default_factory=dict)
 
     def state(self, path: int) -> str:
         """Whether inputs take a path."""
@@ -32,6 +37,20 @@ class Asked:
             return TAKEN
         verdicts = {self.report.goals[goal - 1].verdict for goal in self.goals.get(path, [])}
         return REFUTED if verdicts == {"refuted"} else UNDECIDED
+
+    def verdict(self, path: int) -> Verdict:
+        """What is said of a refuted path, by all of its goals: unreachable where each is."""
+        found = [self.judged.get(goal, (Verdict.REFUTED, None))[0] for goal in self.goals.get(path, [])]
+        return min(found, key=WORST.index, default=Verdict.REFUTED)
+
+    def of_pairs(self, node: int) -> Verdict:
+        """What is said of a condition none of whose pairs of paths is taken by counted runs: unreachable where each pair has an
+        unreachable path, and else what is said of the pairs that haven't."""
+        found = []
+        for pair in self.pairs(node):
+            own = [self.verdict(path) for path in pair if self.state(path) == REFUTED]
+            found.append(max(own, key=WORST.index, default=Verdict.REFUTED))
+        return min(found, key=WORST.index, default=Verdict.UNREACHABLE)
 
     def pairs(self, node: int) -> Iterator[tuple[int, int]]:
         """The pairs of paths that would show that a condition decides on its own."""

@@ -3,8 +3,8 @@
 For each decision it takes the paths through its conditions as goals, has inputs made for them, and says of each condition by
 which two inputs it decides on its own: its value and the outcome differ, and in both the other conditions, as far as they are
 evaluated, leave the outcome to it. Where no such pair is among the paths that inputs take, and each that would do has a path
-which is refuted, there is none within the bounds, and none at all where `bounds` says that they suffice; the goals that say so
-are named, and --certificates DIR has their certificates written and checked. A decision that can't be asked for is told with the
+which is refuted, there is none within the bounds, and none at all where these are refuted for runs of any end and `bounds` says that
+they suffice; the goals that say so are named, and --certificates DIR has their certificates written and checked. A decision that can't be asked for is told with the
 reason. Asserts and assumes are listed apart. Only runs that returned count. The status is 1 where something is undecided; with
 --at-least P it is 1 where less than P percent of the decisions' conditions that aren't unreachable are covered.
 """
@@ -13,7 +13,8 @@ import argparse
 import os
 import sys
 
-from fshell_tools.bounds import sufficiency
+from fshell_tools.bounds import other_ends, sufficiency
+from fshell_tools.bounds.other_ends import Question
 from fshell_tools.bounds.sufficiency import Left
 from fshell_tools.campaign.state_folder import STEPS
 from fshell_tools.core import argument_parsers, inputs, program, progress, snapshots, verdicts
@@ -123,7 +124,24 @@ def bounds_of(given: argparse.Namespace, graph: Graph, all_asked: list[Asked]) -
     if not needs:
         return Left(Limits())
     bounds = {name: getattr(given, name) for name in BOUNDS}
-    return sufficiency.asked(graph, given.entry, given.sources, bounds, given.budget, query="", ends="returned")
+    return sufficiency.asked(graph, given.entry, given.sources, bounds, given.budget, query="")
+
+
+def judge(given: argparse.Namespace, faces: Faces, all_asked: list[Asked], limits: Limits) -> None:
+    """Notes what runs of any end say of the refuted goals by which conditions have no pair."""
+    bounds = {name: getattr(given, name) for name in BOUNDS}
+    question = Question(given.entry, tuple(given.sources), bounds, given.budget)
+    wanted = {asked.decision.number: sorted({goal for test in asked.decision.tests if shown(asked, test.node).state == NONE
+                                             for path in shown(asked, test.node).needed for goal in asked.goals[path]})
+              for asked in all_asked}  # fmt: skip
+    if not any(wanted.values()):
+        return
+    stops = other_ends.stops_of(faces, question)
+    for asked in all_asked:
+        goals = wanted[asked.decision.number]
+        others = other_ends.others_of(faces, question, asked.query, goals, "returned")
+        said = other_ends.Judge(faces, question, limits, stops, asked.query)
+        asked.judged = {goal: said.verdict(asked.report.goals[goal - 1].text, others[goal]) for goal in goals}
 
 
 def main() -> int:
@@ -144,7 +162,9 @@ def main() -> int:
     count = certify(given, all_asked) if given.certificates else 0
     if given.suite:
         program.write_whole(given.suite, inputs.best_text(made))
-    found = Found(faces, all_asked, made, bounds_of(given, graph, all_asked))
+    left = bounds_of(given, graph, all_asked)
+    judge(given, faces, all_asked, left.limits)
+    found = Found(faces, all_asked, made, left)
     if given.json:
         bounds = {name: getattr(given, name) for name in BOUNDS}
         print(json_text(found, given.entry, given.sources, bounds))

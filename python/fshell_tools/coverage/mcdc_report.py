@@ -11,9 +11,17 @@ from fshell_tools.core.reports import Input
 from fshell_tools.core.sources import Faces
 from fshell_tools.core.verdicts import Tally, Verdict
 from fshell_tools.coverage.decisions import Decision, Path, Test
-from fshell_tools.coverage.masking import NONE, REFUTED, SHOWN, TAKEN, Asked, Shown, shown
+from fshell_tools.coverage.masking import NONE, REFUTED, SHOWN, TAKEN, Asked, shown
 
 APART = ("ASSERT", "ASSUME")
+# what is said behind `no pair`
+NO_PAIR = {
+    Verdict.UNREACHABLE: "at all",
+    Verdict.REFUTED: "within the bounds",
+    Verdict.RETURNING: "of runs that return",
+    Verdict.FAILS: "of runs that return, but runs that fail take a path",
+    Verdict.OUTSIDE: "within the assumptions",
+}
 
 
 class Found:
@@ -24,19 +32,17 @@ class Found:
         self.decisions = [asked for asked in all_asked if asked.decision.first.kind not in APART]
         self.apart = [asked for asked in all_asked if asked.decision.first.kind in APART]
 
-    def verdict(self, found: Shown) -> Verdict:
-        """What is said of a condition. Where no two paths show it, no bounds matter."""
+    def verdict(self, asked: Asked, node: int) -> Verdict:
+        """What is said of a condition of a decision, by its node. Where no two paths show it, no bounds matter."""
+        found = shown(asked, node)
         if found.state == SHOWN:
             return Verdict.COVERED
-        if found.state == NONE:
-            is_sure = not found.needed or self.left.limits.make_unreachable
-            return Verdict.UNREACHABLE if is_sure else Verdict.REFUTED
-        return Verdict.UNDECIDED
+        return asked.of_pairs(node) if found.state == NONE else Verdict.UNDECIDED
 
     def tally(self, some: list[Asked]) -> Tally:
         """How many conditions of some decisions have which verdict."""
         conditions = [(asked, test) for asked in some for test in asked.decision.tests]
-        return verdicts.tally(self.verdict(shown(asked, test.node)) for asked, test in conditions)
+        return verdicts.tally(self.verdict(asked, test.node) for asked, test in conditions)
 
     @property
     def is_open(self) -> bool:
@@ -60,6 +66,8 @@ class Text:
             f"input {asked.inputs[number]}: {self.given[asked.inputs[number] - 1].told()}" if state == TAKEN else state
         )
         behind += f", goal {goals}" if state == REFUTED else ""
+        said = [ending for goal in asked.goals.get(number, []) if (ending := asked.judged.get(goal, (None, None))[1])]
+        behind += f"; {asked.verdict(number)}, {said[0].text}" if said and state == REFUTED else ""
         return f"  path {number + 1}: {row} is {'true' if path.outcome else 'false'}, {behind}"
 
     def condition(self, asked: Asked, number: int) -> str:
@@ -73,7 +81,7 @@ class Text:
             one, other = (asked.inputs[path] for path in found.pair)
             return text + f"inputs {one} and {other}, by paths {first} and {second}"
         if found.state == NONE and found.needed:
-            within = "at all" if self.found.verdict(found) is Verdict.UNREACHABLE else "within the bounds"
+            within = NO_PAIR[self.found.verdict(asked, test.node)]
             return text + f"no pair {within}, by refuted paths {' '.join(str(path + 1) for path in found.needed)}"
         return text + ("no two paths show it" if found.state == NONE else "undecided")
 
@@ -92,7 +100,7 @@ class Text:
     def total(self, some: list[Asked], what: str) -> str:
         """The counts of some decisions' conditions."""
         counts = self.found.tally(some).counts
-        none = counts[Verdict.REFUTED] + counts[Verdict.UNREACHABLE]
+        none = sum(counts[one] for one in verdicts.UNHIT)
         told = f"{counts[Verdict.COVERED]} shown, {none} without a pair, {counts[Verdict.UNDECIDED]} undecided"
         return f"conditions {sum(counts.values())} of {len(some)} {what}: {told}"
 
@@ -127,7 +135,7 @@ def condition_value(found: Found, asked: Asked, test: Test) -> dict[str, object]
     known, edge = shown(asked, test.node), test.guards[0]
     text = found.faces.condition(edge)
     value: dict[str, object] = {"text": text, "edge": f"e{edge.number}@{edge.file}:{edge.line}", "state": known.state}
-    value["answer"] = found.verdict(known)
+    value["answer"] = found.verdict(asked, test.node)
     if known.pair:
         value["inputs"] = [asked.inputs[path] for path in known.pair]
     return value | {"refuted": [path + 1 for path in known.needed]}

@@ -17,7 +17,9 @@ RULES = {
     ),
     "open-goal": ("warning", "Neither an input nor a certificate is known for a goal."),
     "refuted-goal": ("warning", "No run within the bounds meets a goal; one beyond them may."),
-    "unreachable-goal": ("note", "No run at all meets a goal."),
+    "failing-goal": ("error", "No run that returns meets a goal, and one that fails does."),
+    "outside-goal": ("note", "Only runs that an assumption rules out meet a goal."),
+    "unreachable-goal": ("note", "No run of any input meets a goal, up to its first trap."),
     "open-condition": ("warning", "No pair of inputs shows that a condition decides on its own."),
     "open-requirement": ("warning", "Nothing shows a requirement."),
     "unreached-function": ("warning", "No entry reaches a function, so nothing of it is tested."),
@@ -31,6 +33,9 @@ OF_VERDICT = {
     Verdict.UNDECIDED: "open-goal",
     Verdict.MISSED: "open-goal",
     Verdict.REFUTED: "refuted-goal",
+    Verdict.RETURNING: "refuted-goal",
+    Verdict.FAILS: "failing-goal",
+    Verdict.OUTSIDE: "outside-goal",
     Verdict.UNREACHABLE: "unreachable-goal",
 }
 
@@ -68,12 +73,14 @@ class Finder:
 
     def errors(self) -> Iterator[Finding]:
         """The places where a run may be ended by a trap: those where an input does it, and those where it isn't ruled
-        out."""
+        out, where the gate asks for these."""
+        for trap in self.results.traps:
+            file, line, column = trap.place.rsplit(":", 2)
+            yield Finding("run-time-error", RULES["run-time-error"][0], file, int(line), max(int(column), 1), trap.text)
         for entry in self.results.entries:
-            for place, verdict, line in self.results.errors(entry.function):
-                if verdict is Verdict.COVERED:
-                    yield self.placed("run-time-error", place, f"a run of {entry.function} is ended here, by {line}")
-                elif verdict is not Verdict.UNREACHABLE:
+            for place, verdict, _ in self.results.errors(entry.function):
+                is_asked = self.results.context.settings.gate.no_run_time_errors
+                if is_asked and verdict not in (Verdict.UNREACHABLE, Verdict.COVERED):
                     yield self.placed(
                         "possible-error", place, f"a run-time error in runs of {entry.function} is {verdict}"
                     )

@@ -16,6 +16,7 @@ def why(results: Results) -> list[str]:
     found = [f"no entry reaches the function {name}, so nothing of it is tested" for name in results.unreached]
     found += _covered(results)
     found += _mcdc(results)
+    found += [f"a run of {one.entry} is {one.end} at {one.place}, by {one.input}" for one in results.forbidden_traps]
     found += _errors(results) if gate.no_run_time_errors else []
     found += _requirements(results) if gate.requirements else []
     return found
@@ -50,9 +51,6 @@ def _errors(results: Results) -> Iterator[str]:
     """What isn't known to be free of run-time errors."""
     for entry in results.entries:
         told = results.errors(entry.function)
-        for place, verdict, line in told:
-            if verdict is Verdict.COVERED:
-                yield f"run-time error: a run of {entry.function} is ended at {place}, by {line}"
         for word, verdict in (("undecided", Verdict.UNDECIDED), ("refuted within the bounds alone", Verdict.REFUTED)):
             count = sum(one is verdict for _, one, _ in told)
             if count:
@@ -78,6 +76,7 @@ def lines(results: Results) -> list[str]:
         shown, of_all = results.mcdc()
         found.append(f"mcdc: {shown} of {of_all} conditions that have a pair are shown")
     found += [f"requirement {one.id}: {state_of(one, results)[0]}" for one in results.requirements]
+    found += [f"trap: {one.place}: {one.text}" for one in results.traps]
     return found
 
 

@@ -62,7 +62,7 @@ class Known(Told):
         if not self.known.limits.suffice:
             return self.known
         asked = self.asked
-        restriction = order.restriction(asked.entry, asked.sources, asked.query, asked.ends, asked.place)
+        restriction = order.restriction(asked.entry, asked.sources, asked.query, "returned", asked.place)
         return Left(dataclasses.replace(self.known.limits, restriction=restriction), self.known.options)
 
 

@@ -6,7 +6,16 @@ from typing import Any
 from fshell_tools.core.verdicts import Verdict
 
 # of several entries' verdicts on a goal, the first in this order is the module's
-ORDER = (Verdict.COVERED, Verdict.UNDECIDED, Verdict.MISSED, Verdict.REFUTED, Verdict.UNREACHABLE)
+ORDER = (
+    Verdict.COVERED,
+    Verdict.FAILS,
+    Verdict.UNDECIDED,
+    Verdict.MISSED,
+    Verdict.RETURNING,
+    Verdict.REFUTED,
+    Verdict.OUTSIDE,
+    Verdict.UNREACHABLE,
+)
 
 
 @dataclass
@@ -83,4 +92,23 @@ class Condition:
 
 NO_PAIR, NONE_WITHIN, SHOWN, OPEN = ("no pair", "no pair within the bounds", "shown", "undecided")
 # what the verdict of fshell mcdc on a condition means
-STATES = {Verdict.COVERED: SHOWN, Verdict.UNREACHABLE: NO_PAIR, Verdict.REFUTED: NONE_WITHIN}
+STATES = {Verdict.COVERED: SHOWN, Verdict.UNREACHABLE: NO_PAIR}
+STATES |= {one: NONE_WITHIN for one in (Verdict.REFUTED, Verdict.RETURNING, Verdict.FAILS, Verdict.OUTSIDE)}
+
+
+@dataclass(frozen=True)
+class Trap:
+    """A run of an entry that a trap ends: the trap, the place in the user's own source, what stands there, the input in words, and
+    the names by which the gate may allow it."""
+
+    entry: str
+    end: str
+    place: str
+    what: str
+    input: str
+    names: tuple[str, ...]
+
+    @property
+    def text(self) -> str:
+        """What is told of it, without its place."""
+        return f"a run of {self.entry} is {self.end}: {self.what}, by the input {self.input}"

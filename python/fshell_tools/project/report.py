@@ -3,6 +3,7 @@
 import json
 import os
 import time
+from dataclasses import asdict
 from typing import Any
 
 from fshell_tools.core import program, templates
@@ -77,6 +78,7 @@ def value_of(results: Results, findings: list[Finding], lost: Difference | None)
         "conditions": [_condition(results, at) for at in range(len(results.conditions))],
         "tests": [_test(results, at) for at in range(len(results.all_tests))],
         "requirements": traceability.rows(results),
+        "traps": [asdict(one) for one in results.traps],
         "findings": [one.gcc_line for one in findings],
         "since": lost.lines() if lost else [],
     }
@@ -181,5 +183,6 @@ def pages(value: dict[str, Any]) -> dict[str, str]:
     """The pages by their files' names, of the report's value. Raises Failure where jinja2 isn't there."""
     folder = os.path.dirname(__file__)
     return {
-        name: templates.rendered(os.path.join(folder, name), report=value) + "\n" for name in ("index.html", "matrix.html")
+        name: templates.rendered(os.path.join(folder, name), report=value) + "\n"
+        for name in ("index.html", "matrix.html")
     }

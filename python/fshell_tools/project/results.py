@@ -9,13 +9,26 @@ from fshell_tools.core import graph as graphs
 from fshell_tools.core import named_inputs
 from fshell_tools.core.graph import Edge
 from fshell_tools.core.input_reader import Reader
+from fshell_tools.core.reports import Input
 from fshell_tools.core.sources import Faces
 from fshell_tools.core.verdicts import Tally, Verdict, tally
 from fshell_tools.coverage.decisions import Decisions
 from fshell_tools.coverage.explain import letter_line
 from fshell_tools.project import criteria
 from fshell_tools.project.carry_over import Ordinals
-from fshell_tools.project.records import NONE_WITHIN, NO_PAIR, OPEN, ORDER, SHOWN, STATES, Condition, Goal, Row, Test
+from fshell_tools.project.records import (
+    NONE_WITHIN,
+    NO_PAIR,
+    OPEN,
+    ORDER,
+    SHOWN,
+    STATES,
+    Condition,
+    Goal,
+    Row,
+    Test,
+    Trap,
+)
 from fshell_tools.project.requirements import Requirement, task_name
 from fshell_tools.project.tasks import Campaign, Context, Task, tasks_of
 from fshell_tools.project.work_folder import Place
@@ -202,6 +215,24 @@ class Results:
         return found
 
     @cached_property
+    def traps(self) -> list[Trap]:
+        """The runs that traps end, one for each entry, place and trap, by what the campaigns and the task of errors found."""
+        found: dict[tuple[str, str, str], Trap] = {}
+        for task in self.tasks:
+            value = task.place(self.context).value("report.json" if isinstance(task, Campaign) else "errors.json") or {}
+            for one in value.get("traps", ()) if isinstance(value, dict) else ():
+                line = Input(tuple(one["input"]["args"]), tuple(one["input"]["answers"])).line()
+                made = Trap(task.entry.function, one["end"], one["place"], one["what"], line, tuple(one["names"]))
+                found.setdefault((made.entry, made.place, made.end), made)
+        return list(found.values())
+
+    @property
+    def forbidden_traps(self) -> list[Trap]:
+        """The traps that the settings don't allow by name."""
+        allowed = set(self.context.settings.gate.allow_traps)
+        return [one for one in self.traps if not allowed & set(one.names)]
+
+    @cached_property
     def statements(self) -> dict[int, str]:
         """The statement of the decision of each guard, by the guard's number."""
         return {number: one.statement for one in Decisions(self.graph, self.faces).found for number in one.guards()}
@@ -265,7 +296,14 @@ def _state_of(requirement: Requirement, goals: list[Goal], tests: list[Test]) ->
     if requirement.is_never:
         if Verdict.COVERED in found:
             return "violated"
-        return "holds within the bounds" if Verdict.REFUTED in found else "holds"
+        if Verdict.FAILS in found:
+            return "violated by a run that fails"
+        worse = {
+            Verdict.REFUTED: "within the bounds",
+            Verdict.RETURNING: "for runs that return",
+            Verdict.OUTSIDE: "under the assumptions alone",
+        }
+        return next((f"holds {words}" for one, words in worse.items() if one in found), "holds")
     return "shown" if found == {Verdict.COVERED} else "not shown"
 
 

@@ -55,17 +55,19 @@ class Entry:
 @dataclass(frozen=True)
 class Gate:
     """What must hold: least percentages, from 0 to 100, of covered goals and of shown conditions, no run-time errors,
-    and all requirements. What is None or False isn't asked for."""
+    and all requirements. What is None or False isn't asked for. `allow_traps` names places (FILE:LINE) and functions at which runs
+    may trap."""
 
     at_least: float | None = None
     mcdc: float | None = None
     no_run_time_errors: bool = False
     requirements: bool = False
+    allow_traps: tuple[str, ...] = ()
 
     @property
     def asks(self) -> bool:
         """Whether it asks for anything."""
-        return self != Gate()
+        return self != Gate(allow_traps=self.allow_traps)
 
 
 @dataclass(frozen=True)
@@ -139,7 +141,11 @@ def _gate(table: Table | None) -> Gate:
     if table is None:
         return Gate()
     found = Gate(
-        table.percent("at-least"), table.percent("mcdc"), table.flag("no-run-time-errors"), table.flag("requirements")
+        table.percent("at-least"),
+        table.percent("mcdc"),
+        table.flag("no-run-time-errors"),
+        table.flag("requirements"),
+        table.texts("allow-traps"),
     )
     table.end()
     return found

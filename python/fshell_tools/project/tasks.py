@@ -8,13 +8,16 @@ import sys
 from dataclasses import dataclass, field
 
 from fshell_tools.bounds import sufficiency
+from fshell_tools.bounds.other_ends import TOO_LARGE, Question, endings_of
 from fshell_tools.bounds.sufficiency import Left
+from fshell_tools.campaign.other_runs import names_of
 from fshell_tools.campaign.request import Asked
 from fshell_tools.core import processes, program
 from fshell_tools.core.graph import Graph
 from fshell_tools.core.named_inputs import Named, Signature
 from fshell_tools.core.program import Failure
-from fshell_tools.core.reports import input_of
+from fshell_tools.core.reports import Input, input_of
+from fshell_tools.core.sources import Faces
 from fshell_tools.core.verdicts import Limits
 from fshell_tools.order import main as order
 from fshell_tools.project import carry_over, criteria, local_campaign
@@ -145,8 +148,9 @@ class Errors(Task):
     generate`)."""
 
     def key(self, context: Context) -> str:
-        """It hangs on the functions that the entry reaches, its bounds and its budget."""
-        return context.key("errors", context.slice(self.entry), self.entry.bounds, self.entry.budget)
+        """It hangs on the text of the sources, since places of traps are told, and on bounds, budget and given inputs."""
+        given = sum_of_text(context.first_inputs(self.entry))
+        return context.key("errors", context.unit.sum(), self.entry.bounds, self.entry.budget, given)
 
     def do(self, context: Context) -> None:
         """Keeps errors.json: each node by its function and its place there, with the program's verdict and an input,
@@ -157,7 +161,11 @@ class Errors(Task):
         query = f"{scope}cover NODES(ID)$"
         words = ["generate", entry.function, query, *unit.sources, *entry.options()]
         words += ["--budget", str(entry.budget), "--ends", "trapped"]
-        report = program.report(words, unit.place)
+        ended = program.run(program.with_json(words), unit.place)
+        if ended.stderr.startswith(TOO_LARGE) and not context.settings.gate.no_run_time_errors:
+            self.place(context).keep("errors.json", {"rows": [], "restriction": "", "traps": self.traps(context, [])})
+            return
+        report = program.report_of(words, ended)
         numbers = carry_over.ordinals(graph)
         rows = []
         for goal in report.goals:
@@ -166,7 +174,17 @@ class Errors(Task):
                 line = report.inputs[goal.input - 1].line() if goal.input else ""
                 rows.append([*numbers.of_node(node), goal.verdict, line])
         restriction = order.restriction(entry.function, unit.sources, query, "trapped", unit.place)
-        self.place(context).keep("errors.json", {"rows": rows, "restriction": restriction})
+        value = {"rows": rows, "restriction": restriction, "traps": self.traps(context, report.inputs)}
+        self.place(context).keep("errors.json", value)
+
+    def traps(self, context: Context, found: list[Input]) -> list[dict[str, object]]:
+        """The runs of found inputs and of the given ones that a trap ends."""
+        entry, unit = self.entry, context.unit
+        faces = Faces(context.graph, unit.sources, unit.place, unit.own)
+        asked = Question(entry.function, unit.sources, entry.bounds, entry.budget, unit.place)
+        given = [Input(*one.numbers) for one in context.given[entry.function]]
+        ends = {(one.node, one.end): one for one in reversed(endings_of(faces, asked, given + found)) if one.is_crash}
+        return [one.value() | {"names": names_of(faces, one)} for one in reversed(ends.values())]
 
 
 @dataclass(frozen=True)
@@ -282,6 +300,5 @@ def tasks_of(settings: Settings, requirements: tuple[Requirement, ...]) -> list[
         ]
         if criteria.MCDC in entry.queries or settings.gate.mcdc is not None:
             found.append(Mcdc(entry, "mcdc"))
-        if settings.gate.no_run_time_errors:
-            found.append(Errors(entry, "errors"))
+        found.append(Errors(entry, "errors"))
     return found

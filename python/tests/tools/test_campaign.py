@@ -18,7 +18,8 @@ PAIRS = 'cover @DEF(sum) . "NOT(@DEF(sum))*" . @USE(sum)'
 REFUTED = [9, 10]
 # which a budget of 1 is too small for
 SLOW = "int f(int a, int b) {\n  if (a > 1 && b > 1 && a * b == 7919 * 7907) {\n    return 1;\n  }\n  return 0;\n}\n"
-NONE = {"covered": 0, "missed": 0, "undecided": 0, "refuted within the bounds": 0, "unreachable": 0}
+NONE = {"covered": 0, "missed": 0, "undecided": 0, "refuted within the bounds": 0, "refuted for runs that return": 0,
+        "fails before it returns": 0, "outside of the assumptions": 0, "unreachable": 0}  # fmt: skip
 CASES = [
     Case("campaign: a query that is refused", ["campaign", "fee", "cover", "fee.c", "-o", "new"], FEE, 2, "",
          "campaign: fshell measure: error 61 QuerySyntax query\n"),

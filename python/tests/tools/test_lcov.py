@@ -103,8 +103,8 @@ end_of_record
 
 
 NOTES = """2 of 2 runs count: lines 2 of 2, functions 1 of 1, branches 3 of 3
-left out, since no input reaches it: never.c:2:17 true
-left out, since no input reaches it: never.c:3
+left out, since no run takes it: never.c:2:17 true
+left out, since no run takes it: never.c:3
 """
 BOTH = {"one.c": ONE, "two.c": TWO, "in": "-1\n1\n"}
 CASES = [

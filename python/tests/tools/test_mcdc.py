@@ -253,6 +253,9 @@ def a_call_and_a_choice_in_one_decision(folder: str) -> Iterator[bool]:
         "missed": 0,
         "undecided": 0,
         "refuted within the bounds": 0,
+        "refuted for runs that return": 0,
+        "fails before it returns": 0,
+        "outside of the assumptions": 0,
         "unreachable": 2,
     }
     text = run(folder, ["mcdc", "f", "a.c"]).stdout.splitlines()

@@ -18,7 +18,16 @@ from fshell_tools.coverage.page.syntax import Coloured
 
 LONGEST_NAME = 40
 # of goals at one place, or on one line, the verdict that is shown is the first of these that one has
-WORST = (Verdict.MISSED, Verdict.UNDECIDED, Verdict.COVERED, Verdict.REFUTED, Verdict.UNREACHABLE)
+WORST = (
+    Verdict.MISSED,
+    Verdict.FAILS,
+    Verdict.UNDECIDED,
+    Verdict.COVERED,
+    Verdict.RETURNING,
+    Verdict.REFUTED,
+    Verdict.OUTSIDE,
+    Verdict.UNREACHABLE,
+)
 
 
 def first_place(faces: Faces, letters: list[Letter]) -> tuple[str, int, int] | None:
@@ -117,7 +126,7 @@ class Page:
             "l": [self.key(letter) for letter in letters],
         }
         found |= {"i": goal.input} if goal.input else {}
-        found |= {"c": commands(one, goal)} if verdict in (Verdict.REFUTED, Verdict.UNREACHABLE) else {}
+        found |= {"c": commands(one, goal)} if verdict in verdicts.UNHIT else {}
         self.goals.append(found)
 
     def owner(self, letter: Letter) -> str:

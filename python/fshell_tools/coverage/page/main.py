@@ -2,7 +2,7 @@
 
 A REPORT is a report of `measure` or `generate` (text or JSON), one of `mcdc` as JSON, of which each condition is a goal, or the
 folder of a campaign; the last two have all that is needed. The folder of fshell rte is a page of its own. For a report the sources are named by --source; with --entry the page also has the paths of its inputs (--inputs for a report of
-`measure`), and says whether a refuted goal is unreachable, by `bounds`; with --query it has the commands that write and check the
+`measure`), and says whether a refuted goal is unreachable, by `bounds` and runs of any end; with --query it has the commands that write and check the
 certificate of a refuted goal.
 """
 
@@ -26,11 +26,25 @@ SIGNS = {
     Verdict.MISSED: "✗",
     Verdict.UNDECIDED: "?",
     Verdict.REFUTED: "⊘",
+    Verdict.RETURNING: "⊖",
+    Verdict.FAILS: "↯",
+    Verdict.OUTSIDE: "⊄",
     Verdict.UNREACHABLE: "∅",
 }
 TABS = {"mcdc": "MC/DC", "requirements": "Requirements"}
+# the verdicts of which a number is told, also where it is 0
+ALWAYS = (Verdict.COVERED, Verdict.MISSED, Verdict.UNDECIDED, Verdict.REFUTED, Verdict.UNREACHABLE)
 # the order of a bar's parts
-BARS = (Verdict.COVERED, Verdict.UNREACHABLE, Verdict.REFUTED, Verdict.UNDECIDED, Verdict.MISSED)
+BARS = (
+    Verdict.COVERED,
+    Verdict.UNREACHABLE,
+    Verdict.OUTSIDE,
+    Verdict.REFUTED,
+    Verdict.RETURNING,
+    Verdict.UNDECIDED,
+    Verdict.FAILS,
+    Verdict.MISSED,
+)
 
 
 def page_text(page: Page) -> str:
@@ -98,11 +112,15 @@ def main() -> int:
         raise Failure("the reports are of different sources")
     snapshots.take(sources, place)
     graph = graphs.of_sources(sources, place)
+    faces = Faces(graph, sources, place)
     for one in reports:
         if not one.verdicts:
-            one.judge(graph)
-    page = Page(reports, graph, Faces(graph, sources, place))
+            one.judge(faces)
+    page = Page(reports, graph, faces)
     program.write_whole(given.out, page_text(page))
     totals = Counter(goal["t"] for goal in page.goals)
-    print(f"{given.out}: {len(page.goals)} goals, " + ", ".join(f"{totals[one]} {one}" for one in Verdict))
+    print(
+        f"{given.out}: {len(page.goals)} goals, "
+        + ", ".join(f"{totals[one]} {one}" for one in Verdict if totals[one] or one in ALWAYS)
+    )
     return program.DONE

@@ -20,6 +20,9 @@ COLOURS = {
     Verdict.MISSED: "#cf222e",
     Verdict.UNDECIDED: "#8a5a00",
     Verdict.REFUTED: "#57606a",
+    Verdict.RETURNING: "#57606a",
+    Verdict.FAILS: "#cf222e",
+    Verdict.OUTSIDE: "#57606a",
     Verdict.UNREACHABLE: "#24292f",
 }
 HEAD = 'digraph { node [shape=circle fontsize=10 width=0.3 fixedsize=true]; edge [fontsize=9 fontname="monospace"]; rankdir=TB;'

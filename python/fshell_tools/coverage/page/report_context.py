@@ -6,13 +6,14 @@ import os
 import shlex
 from dataclasses import dataclass, field
 
-from fshell_tools.bounds import sufficiency
+from fshell_tools.bounds import other_ends, sufficiency
+from fshell_tools.bounds.other_ends import Ending
 from fshell_tools.campaign.request import Asked, read_sums
 from fshell_tools.campaign.state_folder import STEPS, Folder
-from fshell_tools.core import inputs, mcdc_report_reader, program, snapshots, verdicts
-from fshell_tools.core.graph import Graph
+from fshell_tools.core import inputs, mcdc_report_reader, program, snapshots
 from fshell_tools.core.program import Failure
 from fshell_tools.core.reports import BOUNDS, Goal, Input, Report
+from fshell_tools.core.sources import Faces
 from fshell_tools.core.verdicts import Verdict
 from fshell_tools.coverage.explain import report_of
 
@@ -33,24 +34,20 @@ class Shown:
     folder: str = ""
     verdicts: list[Verdict] = field(default_factory=list)
     said: list[str] = field(default_factory=list)
+    judged: dict[int, tuple[Verdict, Ending | None]] = field(default_factory=dict)
 
-    def judge(self, graph: Graph) -> None:
-        """Says of each goal of a report what is known of it; of a refuted one, where the entry is known, with its bounds."""
-        limits = verdicts.UNKNOWN
+    def judge(self, faces: Faces) -> None:
+        """Says of each goal of a report what is known of it; of a refuted one, where the entry is known, with its bounds and with
+        what runs of any end say."""
         if self.entry and self.report.count("refuted"):
             budget = self.report.bounds.get("budget", 5_000_000)
-            left = sufficiency.asked(
-                graph,
-                self.entry,
-                self.sources,
-                self.report.bounds,
-                budget,
-                self.place,
-                query=self.query or None,
-                ends=self.report.ends,
-            )
-            limits, self.said = left.limits, list(left.lines())
-        self.verdicts = [verdicts.of_word(goal.verdict, limits) for goal in self.report.goals]
+            words = (self.entry, self.sources, self.report.bounds, budget, self.place)
+            left = sufficiency.asked(faces.graph, *words, query=self.query or None)
+            self.said = list(left.lines())
+            about = (self.entry, self.sources, self.report, left.limits, self.place)
+            self.judged = other_ends.of_report(faces, *about, query=self.query)
+            self.said += [f"goal {goal}: {one}, {ending.text}" for goal, (one, ending) in self.judged.items() if ending]
+        self.verdicts = other_ends.verdicts_of(self.report, self.judged)
 
 
 def take_judged(folder: Folder, asked: Asked) -> None:
@@ -71,6 +68,7 @@ def of_campaign(path: str) -> Shown:
         for number, (goal, verdict) in enumerate(zip(value["goals"], said), 1):
             report.goals.append(Goal(number, verdict.mark, goal.get("input"), goal["text"]))
         bounds = list(sufficiency.of_value(value["limits"]).lines()) if "limits" in value else []
+        bounds += [f"a run is {one['end']} at {one['place']}: {one['what']}" for one in value.get("traps", ())]
     except (ValueError, KeyError, TypeError):
         raise Failure(f"{path} has no whole report.json") from None
     given = inputs.of_file(folder.at("inputs.json"))
@@ -101,12 +99,15 @@ def shown(name: str, query: str, given: argparse.Namespace) -> Shown:
 
 
 def commands(one: Shown, goal: Goal) -> list[str]:
-    """The commands that write and check the certificate of a refuted goal; those of a campaign for the folder it began in."""
+    """The commands that write and check the certificate of a refuted goal; those of a campaign for the folder it began in. That of an
+    unreachable goal is over runs of any end."""
     if not one.query:
         return []
     bounds = [word for name in BOUNDS for word in (f"--{name}", str(one.report.bounds[name]))]
-    ends = [] if one.report.ends == "returned" else ["--ends", one.report.ends]
-    folder = os.path.relpath(one.folder, one.place) if one.folder else ""
+    is_any = one.report.ends != "any" and one.verdicts[goal.number - 1] is Verdict.UNREACHABLE
+    kind = "any" if is_any else one.report.ends
+    ends = [] if kind == "returned" else ["--ends", kind]
+    folder = os.path.relpath(os.path.join(one.folder, "any" if is_any else ""), one.place) if one.folder else ""
     kept = os.path.join(folder, "certificates", f"{goal.number}.cert") if folder else f"{goal.number}.cert"
     asked = [one.entry or "ENTRY", one.query, str(goal.number)]
     check = shlex.join(["fshell", "check", *asked, kept, *one.sources, *bounds, *ends])
