@@ -52,8 +52,8 @@ def parser_of_words() -> argument_parsers.Parser:
             )
             one.add_argument("--entry", metavar="FUNCTION", help="does the tasks of this entry alone, without a report")
             one.add_argument("--sshloginfile", metavar="FILE", help="the machines, as GNU parallel reads them")
-    for one in argument_parsers.commands_of(parser).values():
-        one.epilog, one.formatter_class = parser.epilog, parser.formatter_class
+    for inner in argument_parsers.commands_of(parser).values():
+        inner.epilog, inner.formatter_class = parser.epilog, parser.formatter_class
     return parser
 
 
