@@ -81,7 +81,7 @@ def a_campaign_tells_the_trap(folder: str) -> Iterator[bool]:
         if "run" in goal
     )
     yield [(one["place"], one["names"][-1]) for one in value["traps"]] == [("t.c:5:5", "f")]
-    yield "a run is trapped index at t.c:5:5" in ended.stdout.splitlines()[-1]
+    yield "a run ends at t.c:5:5, trapped index" in ended.stdout.splitlines()[-1]
     # what is allowed by name fails no gate
     ended = run(folder, [*words[:5], "--allow-traps", "t.c:5"])
     yield "trapped" not in ended.stdout.splitlines()[-1]
@@ -126,7 +126,7 @@ def a_requirement_that_a_failing_run_breaks(folder: str) -> Iterator[bool]:
     put(folder, {"t.c": TABLE, "fshell.toml": TOML.format(""), "needs.toml": NEEDS})
     ended = run(folder, ["run"])
     yield ended.returncode == 1 and "\nrequirement R-1: violated by a run that fails\n" in ended.stdout
-    yield "\nthe gate fails: a run of f is trapped index at t.c:5:5, by args " in ended.stdout
+    yield "\nthe gate fails: a run of f ends at t.c:5:5, trapped index, by args " in ended.stdout
     with open(os.path.join(folder, "fshell.out", "report", "module.sarif"), encoding="utf-8") as file:
         found = json.load(file)["runs"][0]["results"]
     yield ("run-time-error", "error") in [(one["ruleId"], one["level"]) for one in found]
