@@ -106,6 +106,7 @@ class Finder:
     def __init__(self, graph: Graph, sources: Sequence[str], words: list[Word], reader: Reader) -> None:
         self.graph, self.words, self.forms, self.bodies = graph, words, reader.forms, reader.bodies
         self.texts = {name: Source(name, program.read(name)) for name in sources}
+        self.unit = reader.unit
         self.lowering = lowering.of_unit(reader.unit, graph, words)
         self.safe = constants.Safe(reader.unit, words).marks
         self.statements = [one for one in self.forms if one.name == "statement"]
