@@ -61,7 +61,7 @@ def start(words: list[str]) -> int:
 
 
 def help_text() -> str:
-    """All commands, by what they are for."""
+    """What --help prints: all commands, by what they are for."""
     lines = ["FShell tests C functions by coverage queries. Its core is proved.", "", "usage: fshell COMMAND WORD.."]
     for purpose, group in commands.PURPOSES.items():
         lines += ["", f"{purpose}:"]
@@ -142,7 +142,7 @@ def version_text() -> str:
 
 
 def version() -> str:
-    """The version of this package."""
+    """The number that pyproject.toml has, or that was installed."""
     import importlib.metadata
     import tomllib
 
@@ -159,7 +159,7 @@ def version() -> str:
 
 
 def answer(words: list[str]) -> int:
-    """Answers --help, help and --version."""
+    """Prints what --help, help or --version asks for; the status: 0."""
     if words == ["--version"]:
         text = version_text()
     elif len(words) == 2 and words[0] == "help":

@@ -39,16 +39,24 @@ def _result(one: Finding, rules: list[str]) -> dict[str, Any]:
     }
 
 
-def text_of(findings: Sequence[Finding], rules: Mapping[str, tuple[str, str]], folder: str) -> str:
-    """The findings as SARIF 2.1. `rules` has of each rule its level and what it says; files are named from the folder."""
+def text_of(
+    findings: Sequence[Finding],
+    rules: Mapping[str, tuple[str, str]],
+    folder: str,
+    properties: Mapping[str, Any] | None = None,
+) -> str:
+    """The findings as SARIF 2.1. `rules` has of each rule its level and what it says; files are named from the folder. The
+    run has these properties, if any."""
     told = [
         {"id": name, "shortDescription": {"text": text}, "defaultConfiguration": {"level": level}}
         for name, (level, text) in rules.items()
     ]
-    run = {
+    run: dict[str, Any] = {
         "tool": {"driver": {"name": "FShell", "rules": told}},
         "originalUriBaseIds": {"SRCROOT": {"uri": f"file://{urllib.parse.quote(folder)}/"}},
         "columnKind": "utf16CodeUnits",
         "results": [_result(one, list(rules)) for one in findings],
     }
+    if properties:
+        run["properties"] = dict(properties)
     return json.dumps({"$schema": SCHEMA, "version": "2.1.0", "runs": [run]}, indent=1) + "\n"

@@ -4,7 +4,19 @@ from collections.abc import Sequence
 
 from fshell_tools.order.expressions import TYPE_WORDS, Expressions
 from fshell_tools.order.tokens import Word
-from fshell_tools.order.tree import Assign, Call, Check, Expression, Function, Kind, Loop, Parts, Statement, Unit, Variable
+from fshell_tools.order.tree import (
+    Assign,
+    Call,
+    Check,
+    Expression,
+    Function,
+    Kind,
+    Loop,
+    Parts,
+    Statement,
+    Unit,
+    Variable,
+)
 
 BEFORE_TYPES = ("static", "extern", "inline", "const")
 
@@ -199,7 +211,7 @@ class Items(Expressions):
         if self.texts[self.at + 1] != "(":
             unit.variables += self.declarators(kind)
             return
-        name = self.word()
+        name_at, name = self.at, self.word()
         self.need("(")
         if self.text == "void" and self.texts[self.at + 1] == ")":
             self.at += 1
@@ -207,7 +219,7 @@ class Items(Expressions):
         if not self.take(";"):
             self.calls = set()
             body = self.block()
-            unit.functions[name] = Function(at, name, parameters, body, self.calls)
+            unit.functions[name] = Function(at, name, parameters, body, self.calls, kind, name_at)
 
     def constants(self, unit: Unit) -> None:
         """Reads the constants of an enum into a unit."""

@@ -172,6 +172,8 @@ class Function:
     parameters: list[Variable]
     body: Parts
     calls: set[str] = field(default_factory=set)
+    kind: Kind = INT  # of its result
+    name_at: int = 0  # the number of its name's token
 
 
 @dataclass

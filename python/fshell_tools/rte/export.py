@@ -6,9 +6,10 @@ import re
 from collections.abc import Sequence
 
 from fshell_tools.campaign.request import Asked
-from fshell_tools.core import original_sources, sarif
+from fshell_tools.core import original_sources, sarif, source_map
+from fshell_tools.core.graph import Graph
 from fshell_tools.core.sarif import Finding
-from fshell_tools.rte.checked_calls import FOLDER
+from fshell_tools.rte.checked_calls import FOLDER, header_of
 from fshell_tools.rte.rows import Row, Verdict
 
 RULES = {
@@ -53,6 +54,28 @@ def findings(rows: Sequence[Row]) -> list[Finding]:
     return found
 
 
-def sarif_of(rows: Sequence[Row], asked: Asked) -> str:
-    """The rows as SARIF 2.1.0 (OASIS); names of files are those from the folder of the question."""
-    return sarif.text_of(findings(rows), RULES, os.path.realpath(asked.place))
+def not_looked_at(graph: Graph, asked: Asked) -> list[str]:
+    """What can go wrong in runs of the entry, or in the sources, without a row."""
+    reached = graph.reached(asked.entry)
+    others = [one.name for one in graph.functions if one.name not in reached]
+    found = []
+    if not header_of(asked.sources):
+        found.append("signed overflow (fshell adapt --check-overflow)")
+    if asked.ends != "any":
+        found.append("assumes that fail and calls that are too deep (--ends any)")
+    if others:
+        found.append(f"functions that {asked.entry} doesn't call ({', '.join(others)})")
+    if any(os.path.exists(os.path.join(os.path.dirname(name), source_map.NAME)) for name in asked.sources):
+        found.append("memory that was freed (docs/ADAPT.md)")
+    return found
+
+
+def lines_of(missing: Sequence[str]) -> list[str]:
+    """The line that says what isn't looked at; none where nothing is missing."""
+    return [f"not looked at: {'; '.join(missing)}"] if missing else []
+
+
+def sarif_of(rows: Sequence[Row], asked: Asked, missing: Sequence[str]) -> str:
+    """The rows as SARIF 2.1.0 (OASIS); names of files are those from the folder of the question. What isn't looked at is a
+    property of the run."""
+    return sarif.text_of(findings(rows), RULES, os.path.realpath(asked.place), {"notLookedAt": list(missing)})

@@ -106,6 +106,7 @@ class Finder:
     def __init__(self, graph: Graph, sources: Sequence[str], words: list[Word], reader: Reader) -> None:
         self.graph, self.words, self.forms, self.bodies = graph, words, reader.forms, reader.bodies
         self.texts = {name: Source(name, program.read(name)) for name in sources}
+        self.unit = reader.unit
         self.lowering = lowering.of_unit(reader.unit, graph, words)
         self.safe = constants.Safe(reader.unit, words).marks
         self.statements = [one for one in self.forms if one.name == "statement"]
@@ -154,7 +155,7 @@ class Finder:
 
     def operations(self, reached: set[str], any_end: bool) -> Iterator[Operation]:
         """The operations of the `reached` functions, in the order of the sources; those of constant expressions aren't
-        any (C11 6.6: they are no part of a run)."""
+        any (C11 6.6: they are no part of a run). Raises Failure where an operation has no edge."""
         bodies = [form for name, form in self.bodies.items() if name in reached]
         for form in sorted(self.forms, key=lambda one: (one.mark, one.last)):
             kind = self.kind(form, any_end)

@@ -6,7 +6,8 @@ read and written. Only where all are the same each operation belongs to exactly 
 """
 
 from collections.abc import Iterator, Sequence
-from dataclasses import dataclass, replace
+from contextlib import contextmanager
+from dataclasses import dataclass, field, replace
 
 from fshell_tools.core.graph import Edge, Graph
 from fshell_tools.core.program import Failure
@@ -21,6 +22,7 @@ from fshell_tools.order.tree import (
     Expression,
     Loop,
     Name,
+    Number,
     Ordered,
     Parts,
     Statement,
@@ -47,18 +49,28 @@ class Step:
     writes: frozenset[str] = frozenset()
     reads: frozenset[str] = frozenset()
     marks: tuple[int, ...] = ()
-    unset: str = ""  # the variable that a declaration leaves without a value
-    whole: str = ""  # the variable that gets a value as a whole
+    uses: frozenset[tuple[int, int]] = frozenset()  # tokens of names that are read, each with its object
+    unset: int = -1  # the object that a declaration leaves without a value
+    whole: int = -1  # the object that gets a value as a whole
     call: int = -1  # of the edge of a call, the number of the call's first token
+    gives: bool = False  # it returns a value
+    is_dead: bool = False  # a guard that a constant never lets pass
 
 
-def names_in(one: Expression | None) -> Iterator[str]:
-    """The names of what is read where an expression is evaluated, but for its calls, `&&`, `||` and `?:`, which are
-    evaluated before."""
-    if isinstance(one, Name):
-        yield one.name
-    if isinstance(one, Element):
-        yield one.name
+@dataclass
+class Scope:
+    """The names that a scope declares, each with its object: the token of its declarator, or -1 of one that is no automatic
+    object without a parameter's value. `node` is where the scope begins."""
+
+    node: int
+    objects: dict[str, int] = field(default_factory=dict)
+
+
+def names_in(one: Expression | None) -> Iterator[tuple[int, str]]:
+    """The names of what is read where an expression is evaluated, each with its token, but for its calls, `&&`, `||` and
+    `?:`, which are evaluated before."""
+    if isinstance(one, (Name, Element)):
+        yield one.at, one.name
     for part in parts_of(one):
         yield from names_in(part)
 
@@ -101,38 +113,62 @@ class Lowering:
         self.after, self.again = -1, -1  # where `break` and `continue` lead
         self.exit = 0
         self.owners: list[str] = []
+        self.scopes: list[Scope] = []
+        self.born: dict[int, set[int]] = {}  # by the node where a scope begins, its objects
+        self.arrays = set[int]()  # the objects that are arrays
+        self.used = set[int]()  # the first tokens of calls whose results are used
+        self.named: dict[tuple[str, str], set[int]] = {}  # by a function and a name there, all objects that it means
+        self.name = ""
         for name in names:
             self.function(name)
 
     def function(self, name: str) -> None:
         """Makes the edges of a function."""
         one, number = self.unit.functions[name], self.numbers[name]
-        self.exit = 2 * number + 1
-        if one.body.parts:
-            self.block(one.body.parts, 2 * number, self.exit)
-        else:
-            self.at, self.kind = one.at, "EMPTY"
-            self.step(2 * number, self.exit, "skip")
+        self.exit, self.name = 2 * number + 1, name
+        with self.scope(2 * number) as scope:
+            scope.objects |= {parameter.name: -1 for parameter in one.parameters}
+            if one.body.parts:
+                self.block(one.body.parts, 2 * number, self.exit)
+            else:
+                self.at, self.kind = one.at, "EMPTY"
+                self.step(2 * number, self.exit, "skip")
         self.owners += [name] * (len(self.steps) - len(self.owners))
 
+    @contextmanager
+    def scope(self, node: int) -> Iterator[Scope]:
+        """A scope that begins at a node (C11 6.2.1p4): each time a run comes there, its objects are new ones (6.2.4p6)."""
+        self.scopes.append(Scope(node))
+        yield self.scopes[-1]
+        self.scopes.pop()
+
+    def object(self, name: str) -> int:
+        """The object that a name means: -1 where it is a parameter, or isn't declared in the function."""
+        found = next((scope.objects[name] for scope in reversed(self.scopes) if name in scope.objects), -1)
+        self.named.setdefault((self.name, name), set()).add(found)
+        return found
+
     def node(self) -> int:
-        """A new node."""
+        """Makes one; the number is its place among all nodes."""
         self.nodes += 1
         return self.nodes - 1
 
     def step(self, source: int, target: int, operation: str, at: int | None = None, target_of: Statement | None = None,
-             values: Sequence[Expression | None] = (), unset: str = "", call: int = -1) -> None:  # fmt: skip
+             values: Sequence[Expression | None] = (), sets: bool = True, call: int = -1) -> None:  # fmt: skip
         """Makes an edge; its location is that of the innermost statement, where no token `at` is given. `target_of` is the
-        variable or element that is written, `values` what is evaluated (of a call, its arguments; `call` is its token).
-        """
+        variable or element that is written, `values` what is evaluated (of a call, its arguments; `call` is its token). A
+        declaration that leaves the variable without a value doesn't set it (`sets`)."""
         name = target_of.name if isinstance(target_of, (Name, Element, Variable)) else ""
         index = target_of.index if isinstance(target_of, Element) else None
-        whole = name if isinstance(target_of, (Name, Variable)) and not unset and operation != "clear" else ""
+        meant = self.object(name) if name else -1
+        found = -1 if isinstance(target_of, Element) else meant
         reads = {*names_in(index), *(one for value in values for one in names_in(value))}
+        uses = frozenset((token, self.object(one)) for token, one in reads)
         marks = [*marks_in(index), *(one for value in values for one in marks_in(value))]
         marks += [target_of.at + 1] if isinstance(target_of, Element) else []
         made = Step(source, target, self.at if at is None else at, self.kind, operation, frozenset([name] if name else []),
-                    frozenset(reads), tuple(dict.fromkeys(marks)), unset, whole, call)  # fmt: skip
+                    frozenset(one for _, one in reads), tuple(dict.fromkeys(marks)), uses, -1 if sets else found,
+                    found if sets else -1, call)  # fmt: skip
         self.steps.append(made)
 
     # ---- expressions
@@ -141,6 +177,7 @@ class Lowering:
         """Makes what is done before an expression is a value; the node at which it is."""
         if isinstance(one, Call):
             made = self.node()
+            self.used.add(one.at)
             self.call(one, at, made)
             return made
         if isinstance(one, Ordered):
@@ -185,8 +222,10 @@ class Lowering:
             self.condition(second, middle, yes, no)
         else:
             at = self.pure(one, at)
-            self.step(at, yes, "guard true", one.at, values=[one])
-            self.step(at, no, "guard false", one.at, values=[one])
+            for target, holds in ((yes, True), (no, False)):
+                self.step(at, target, f"guard {'true' if holds else 'false'}", one.at, values=[one])
+                if isinstance(one, Number) and (one.value != 0) != holds:
+                    self.steps[-1] = replace(self.steps[-1], is_dead=True)
 
     # ---- statements
 
@@ -245,10 +284,14 @@ class Lowering:
             value = expression(one.parts[0]) if one.parts else None
             at = self.pure(value, at)
             self.step(at, self.exit, "assign" if one.parts else "skip", values=[value])
+            self.steps[-1] = replace(self.steps[-1], gives=bool(one.parts))
         elif one.word in ("break", "continue"):
             self.step(at, self.after if one.word == "break" else self.again, "skip")
         elif one.word == ";":
             self.step(at, target, "skip")
+        elif one.opens:
+            with self.scope(at):
+                self.block(one.parts, at, target)
         else:
             self.block(one.parts, at, target)
 
@@ -262,22 +305,25 @@ class Lowering:
             and part.at == part.parts[0].at
         ):
             part = part.parts[0]
-        self.statement(part, at, target, part.at)
+        with self.scope(at):
+            self.statement(part, at, target, part.at)
 
     def declaration(self, one: Variable, at: int, target: int) -> None:
-        """Makes a declarator."""
+        """Lowers an initialised name. Its object is set by its last value; what is read before isn't (C11 6.2.1p7, 6.7.9p23)."""
+        self.scopes[-1].objects[one.name] = one.at
+        self.born.setdefault(self.scopes[-1].node, set()).add(one.at)
         if one.length is None:
             at = self.pure(one.value, at)
-            unset = "" if one.value else one.name
-            self.step(at, target, "assign", target_of=one, values=[one.value], unset=unset)
+            self.step(at, target, "assign", target_of=one, values=[one.value], sets=one.value is not None)
             return
+        self.arrays.add(one.at)
         values = one.listed or []
         behind = self.node() if values else target
-        self.step(at, behind, "clear", target_of=one, unset="" if one.listed is not None else one.name)
+        self.step(at, behind, "clear", target_of=one, sets=one.listed is not None and not values)
         for number, value in enumerate(values):
             at, behind = behind, self.node() if number + 1 < len(values) else target
             at = self.pure(value, at)
-            self.step(at, behind, "assign", target_of=one, values=[value], unset="")
+            self.step(at, behind, "assign", target_of=one, values=[value], sets=number + 1 == len(values))
 
     def assignment(self, one: Assign, at: int, target: int) -> None:
         """Makes an assignment or a step."""
@@ -304,7 +350,12 @@ class Lowering:
             self.within(parts[-1], here, target)
 
     def loop(self, one: Loop, at: int, target: int, place: int) -> None:
-        """Makes a loop."""
+        """Lowers an iteration statement, which is a scope (C11 6.8.5p5)."""
+        with self.scope(at):
+            self.turns(one, at, target, place)
+
+    def turns(self, one: Loop, at: int, target: int, place: int) -> None:
+        """Makes the edges of a loop."""
         before = self.after, self.again
         if one.first:
             behind = self.node()
@@ -341,7 +392,7 @@ class Lowering:
 
     def switch(self, one: Parts, at: int, target: int) -> None:
         """Makes a `switch`: its groups are the labels that are next to each other with the statements behind them."""
-        before, place = self.after, one.at
+        before, place, start = self.after, one.at, at
         labels, rows = groups(one.parts[1])
         nodes = [self.node() for _ in rows]
         test = self.node()
@@ -362,9 +413,10 @@ class Lowering:
         if not cases:
             self.step(test, default, "skip")
         self.after = target
-        for number, row in enumerate(rows):
-            self.at, self.kind = place, "SWITCH" if row else "EMPTY"
-            self.block(row, nodes[number], nodes[number + 1] if number + 1 < len(nodes) else target)
+        with self.scope(start):
+            for number, row in enumerate(rows):
+                self.at, self.kind = place, "SWITCH" if row else "EMPTY"
+                self.block(row, nodes[number], nodes[number + 1] if number + 1 < len(nodes) else target)
         self.after = before
 
 

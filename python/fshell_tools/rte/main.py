@@ -1,7 +1,8 @@
 """fshell rte: says of each operation that can end a run of a function wrongly whether it ever does.
 
 The operations are the divisions, remainders, indices, shifts and asserts of the functions that the entry may call, and with
---ends any also its assumes and calls. A line each:
+--ends any also its assumes and calls. Reads of objects that may never have been set, and results of functions that may end
+without a `return`, are operations too. A line each:
 
     FILE:LINE:COLUMN: VERDICT: OPERATION
 
@@ -41,6 +42,8 @@ from fshell_tools.rte import (
 )
 from fshell_tools.rte.failing_operations import Finder
 from fshell_tools.rte.rows import Row, Rows, Verdict, is_clean, tally
+from fshell_tools.rte.unset_objects import Flow
+from fshell_tools.rte.unset_verdicts import Unset
 from fshell_tools.rte.search import ENDINGS, has_bounds_certificates, known, not_reached, prove_bounds
 
 
@@ -110,7 +113,9 @@ def rows_of(graph: Graph, folder: Folder, asked: Asked, limits: Limits, warned: 
     if sites:
         for site in written:
             rows.append((set(finder.at.get((site.file, *site.spot), [])), sites.row(site, limits, made.unreached)))
-        rows.sort(key=lambda one: min(one[0], default=len(finder.words)))
+    flow = Flow(graph, finder.lowering, finder.unit, asked.entry)
+    rows += Unset(graph, finder, flow, folder.path, asked, jobs).rows(limits)
+    rows.sort(key=lambda one: min(one[0], default=len(finder.words)))
     restricted = evaluation_order.Regions(graph, finder, warned, asked.place).restricted(rows)
     return [export.of_the_user(row, asked) for _, row in restricted]
 
@@ -133,16 +138,16 @@ def repeated(folder: Folder, asked: Asked, rows: list[Row], is_confirmed: bool) 
     program.write_whole(folder.at(reproduction.NAME + ".c"), text)
     said = list(reproduction.confirmed(folder.path, header, len(found))) if is_confirmed else [""] * len(found)
     return [
-        dataclasses.replace(row, number=found.index(row.input) + 1, gcc=said[found.index(row.input)])
+        dataclasses.replace(row, number=found.index(row.input) + 1, gcc=row.of_gcc(said[found.index(row.input)]))
         if row.input
         else row
         for row in rows
     ]
 
 
-def json_of(asked: Asked, left: Left, rows: list[Row]) -> str:
-    """The text of rte.json (docs/TOOLS.md): the rows with what was asked, what is known of the bounds, and whether all
-    is clean."""
+def json_of(asked: Asked, left: Left, rows: list[Row], missing: list[str]) -> str:
+    """The text of rte.json (docs/TOOLS.md): the rows with what was asked, what is known of the bounds, what isn't looked
+    at (`missing`), and whether all is clean."""
     named = {name: getattr(asked, name) for name in ("entry", "sources", "sums", "bounds", "ends", "budget")}
     limits = dataclasses.asdict(left.limits) | {"next": left.options}
     if left.limits.left:
@@ -150,6 +155,7 @@ def json_of(asked: Asked, left: Left, rows: list[Row]) -> str:
     counts = {one: sum(row.verdict is one for row in rows) for one in Verdict}
     value = named | {
         "limits": limits,
+        "not_looked_at": missing,
         "rows": [row.value() for row in rows],
         "counts": counts,
         "clean": is_clean(rows, left.limits),
@@ -167,6 +173,7 @@ def main() -> int:
     if not has_bounds_certificates():
         raise Failure("the program has no command prove-bounds; a newer one is needed (FSHELL names another)")
     measured(asked, [])
+    missing = export.not_looked_at(graph, asked)
     folder = Folder(given.folder)
     folder.begin(asked, [])
     with locked(folder):
@@ -177,8 +184,8 @@ def main() -> int:
         left = dataclasses.replace(left, limits=limits)
         rows = rows_of(graph, folder, asked, limits, warned, folder.jobs(given.jobs))
         rows = repeated(folder, asked, rows, given.confirm)
-        program.write_whole(folder.at("rte.json"), json_of(asked, left, rows))
-        program.write_whole(folder.at("rte.sarif"), export.sarif_of(rows, asked))
+        program.write_whole(folder.at("rte.json"), json_of(asked, left, rows, missing))
+        program.write_whole(folder.at("rte.sarif"), export.sarif_of(rows, asked, missing))
     lines = [line for row in rows for line in row.lines(given.folder)]
     how = (
         [
@@ -187,6 +194,6 @@ def main() -> int:
         if any(row.input for row in rows)
         else []
     )
-    said = [*lines, *left.lines(), *how, tally(rows)]
+    said = [*lines, *left.lines(), *how, *export.lines_of(missing), tally(rows)]
     program.give("".join(line + "\n" for line in said), None)
     return program.DONE if is_clean(rows, left.limits) else program.OPEN

@@ -14,6 +14,7 @@ from fshell_tools.rte.operand_predicates import Apart
 from fshell_tools.rte.search import Failed, Known
 
 
+UNSET = {"read", "result"}  # the kinds of operations that use what was never set
 BY_TEXT = "by its constant alone"
 
 
@@ -43,6 +44,11 @@ class Row:
     folder: str = ""  # of the certificates, where it isn't that of the whole
     number: int = 0  # of its input, by which the failure is repeated
     gcc: str = ""  # what gcc's sanitizers say of that run
+
+    def of_gcc(self, said: str) -> str:
+        """What gcc's sanitizers say of its run, or why they say nothing of it."""
+        kinds = {one.kind for one in self.operations}
+        return "its sanitizers don't look at this" if said and kinds and kinds <= UNSET else said
 
     def line(self) -> str:
         """The row as it is printed: PLACE: VERDICT: WHAT, and why."""

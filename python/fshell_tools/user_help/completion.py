@@ -85,7 +85,7 @@ def words_of_all(page: str) -> tuple[Words, Words]:
 
 
 def bash(page: str) -> str:
-    """The script for bash."""
+    """What bash sources: one function that completes each word."""
     options, values = words_of_all(page)
     return BASH.format(
         commands=f"{' '.join(commands.ALL)} {FIRST}",
@@ -100,7 +100,7 @@ def zsh(page: str) -> str:
 
 
 def fish(page: str) -> str:
-    """The script for fish."""
+    """What fish sources: a line for each command and for each option."""
     options, values = words_of_all(page)
     lines = ["# completion of FShell for fish"]
     for name, command in commands.ALL.items():

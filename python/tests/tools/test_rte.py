@@ -42,6 +42,10 @@ PLANTED: dict[str, tuple[str, str, Callable[[int, int], bool]]] = {
     "a.c:13:3": ("assert(a != 77)", "trapped assert", lambda a, n: a == 77 and n != 4),
 }
 SUFFICE = "the bounds suffice: no run at all leaves them\n"
+MISSING = (
+    "not looked at: signed overflow (fshell adapt --check-overflow); "
+    "assumes that fail and calls that are too deep (--ends any)"
+)
 LOOP = "int f(int n) {\n  int s = 8;\n  for (int i = 0; i < n; i++) {\n    s = 8 / (i + 1);\n  }\n  return s;\n}\n"
 DEAD = "int f(unsigned char n) {\n  if (n > 300) {\n    return 1 / n;\n  }\n  return 0;\n}\n"
 STRICT = "int a[4];\nint in(void);\nint f(unsigned char x) {\n  if (x < 4) {\n    a[x] = in();\n  }\n  return 0;\n}\n"
@@ -122,21 +126,21 @@ def one(name: str, text: str, words: Sequence[str], status: int, stdout: str | N
 
 CASES = [
     one("a run that leaves the bounds", LOOP, ["--turns", "2"], 1, None),
-    one("what isn't reached", DEAD, [], 1, told("a.c:3:14: not reached: division 1 / n", SUFFICE[:-1], "rows 1: 1 not reached")),
-    one("nothing that can fail", "int f(int x) {\n  return x;\n}\n", [], 0, told(SUFFICE[:-1], "rows 0")),
-    one("a constant expression", "int f(int x) {\n  int a[8 / 2];\n  return a[x & 3];\n}\n", [], 0,
-        told("a.c:3:11: never: index a[x & 3]", SUFFICE[:-1], "rows 1: 1 never")),
+    one("what isn't reached", DEAD, [], 1, told("a.c:3:14: not reached: division 1 / n", SUFFICE[:-1], MISSING, "rows 1: 1 not reached")),
+    one("nothing that can fail", "int f(int x) {\n  return x;\n}\n", [], 0, told(SUFFICE[:-1], MISSING, "rows 0")),
+    one("a constant expression", "int f(int x) {\n  int a[8 / 2] = {1};\n  return a[x & 3];\n}\n", [], 0,
+        told("a.c:3:11: never: index a[x & 3]", SUFFICE[:-1], MISSING, "rows 1: 1 never")),
     one("an order of evaluation in which nothing fails", STRICT, [], 0,
-        told("a.c:5:6: never: index a[x]", SUFFICE[:-1], "rows 1: 1 never")),
+        told("a.c:5:6: never: index a[x]", SUFFICE[:-1], MISSING, "rows 1: 1 never")),
     one("the order of evaluation of a statement in which something fails", TWO_TRAPS, [], 1, told(
         "a.c:3:11: open: index a[y & 3]: C leaves the order of evaluation open at a.c:7:8 (strict)",
         "a.c:6:13: never: division 9 / (y + 1)", "a.c:7:10: fails: division 8 / x: trapped zero-divisor by the input args 0 0",
         "  to repeat it: d/failures 1", "a.c:8:15: never: index a[y & 3]", SUFFICE[:-1],
-        "failures are repeated by gcc -w -fsanitize=undefined -fno-sanitize-recover=all -fwrapv -o d/failures d/failures.c", "rows 4: 2 never, 1 fails, 1 open")),
+        "failures are repeated by gcc -w -fsanitize=undefined -fno-sanitize-recover=all -fwrapv -o d/failures d/failures.c", MISSING, "rows 4: 2 never, 1 fails, 1 open")),
     one("the order of evaluation on which a value hangs", VALUE, [], 1, told(
         "a.c:8:12: open: division 8 / (y + 1): C leaves the order of evaluation open at a.c:7:11 (value)",
         SUFFICE[:-1], "no refuted goal is called unreachable: C leaves the order of evaluation open at a.c:7:11 (value)",
-        "rows 1: 1 open")),
+        MISSING, "rows 1: 1 open")),
     one("another order of evaluation fails, and runs leave the bounds", OTHER_FAILS, ["--turns", "1"], 1, None),
     one("constants", CONSTANTS, [], 1, told(
         "a.c:4:13: never: division x / FOUR: by its constant alone", "a.c:5:9: never: index t[7]: by its constant alone",
@@ -145,7 +149,7 @@ CASES = [
         "a.c:6:15: never: shift z >> 40: by its constant alone", "a.c:6:26: never: remainder 7 % y",
         "a.c:7:5: never: shift a >>= 3: by its constant alone", SUFFICE[:-1],
         "failures are repeated by gcc -w -fsanitize=undefined -fno-sanitize-recover=all -fwrapv -o d/failures d/failures.c",
-        "rows 8: 7 never, 1 fails")),
+        MISSING, "rows 8: 7 never, 1 fails")),
     one("constants that fail", CONSTANTS_THAT_FAIL, [], 1, None),
     Case("rte: no such entry", ["rte", "g", "a.c", "-o", "d"], {"a.c": DEAD}, 2, "", "rte: no function is called g\n", needs=GRAPH),
     Case("rte: no such file", ["rte", "f", "no.c", "-o", "d"], {}, 2, "", "rte: no.c: No such file or directory\n", needs=GRAPH),
@@ -213,7 +217,7 @@ def certificates_stand_alone(folder: str) -> Iterator[bool]:
     ended = run(folder, ["rte", "f", "a.c", "-o", "d"])
     places = ["a.c:3:12: never: division a / b", "a.c:8:14: never: index table[n]", "a.c:11:13: never: shift 1u << a",
               "a.c:13:3: never: assert(a <= 255)"]  # fmt: skip
-    yield (ended.returncode, ended.stdout, ended.stderr) == (0, told(*places, SUFFICE[:-1], "rows 4: 4 never"), "")
+    yield (ended.returncode, ended.stdout, ended.stderr) == (0, told(*places, SUFFICE[:-1], MISSING, "rows 4: 4 never"), "")
     yield program(folder, "check-bounds", "f", "d/bounds.cert", "a.c").returncode == 0
     query = "cover NODES(ID)$"
     goals = [line.split(" ", 2)[1:] for line in program(folder, "goals", query, "a.c").stdout.splitlines()[1:]]
@@ -590,7 +594,109 @@ def a_step_without_operation(folder: str) -> Iterator[bool]:
             }
 
 
-TRIED = [(GRAPH, wrong_words), (GRAPH, constants_that_fail), (GRAPH, another_order_fails), (GRAPH, behind_an_else),
+# ---- what was never set (C11 6.3.2.1p2, 6.9.1p12): of each program its rows by hand, with the inputs that fail
+
+Inputs = Callable[[int], bool] | None
+UNSET: list[tuple[str, str, list[tuple[str, str, str, Inputs]]]] = [
+    ("one arm", "int f(int i) {\n  int x;\n  if (i > 3) { x = 1; }\n  return x;\n}\n",
+     [("4:10", "read of x", "fails", lambda i: i <= 3)]),
+    ("both arms", "int f(int i) {\n  int x;\n  if (i > 3) { x = 1; } else { x = 2; }\n  return x;\n}\n", []),
+    ("the same condition", "int f(int i) {\n  int x;\n  if (i > 3) { x = 1; }\n  if (i > 4) { return x; }\n  return 0;\n}\n",
+     [("4:23", "read of x", "never", None)]),
+    ("a condition", "int f(int i) {\n  int x;\n  if (i > 3) { x = 1; }\n  if (i < 9 && x) { i = 1; }\n  return i;\n}\n",
+     [("4:16", "read of x", "fails", lambda i: i <= 3)]),
+    ("arguments", "int id(int y) { return y; }\nint f(int i) {\n  int x;\n  if (i != 5) { x = 1; }\n  return id(x);\n}\n",
+     [("5:13", "read of x", "fails", lambda i: i == 5)]),
+    ("a compound assignment", "int f(int i) {\n  int x;\n  x += i;\n  return x;\n}\n", [("3:3", "read of x", "fails", lambda i: True)]),
+    ("a step", "int f(int i) {\n  int x;\n  if (i == 2) { x = 1; }\n  x++;\n  return x;\n}\n", [("4:3", "read of x", "fails", lambda i: i != 2)]),
+    ("an index", "int t[4];\nint f(int i) {\n  int x;\n  if (i == 2) { x = 1; }\n  t[x & 3] = i;\n  return t[2];\n}\n",
+     [("5:4", "index t[x & 3]", "never", None), ("5:5", "read of x", "fails", lambda i: i != 2), ("6:11", "index t[2]", "never", None)]),
+    ("a step that is trapped", "int f(int i) {\n  int x;\n  if (i) { x = 1; }\n  return 8 / x;\n}\n",
+     [("4:12", "division 8 / x", "fails", lambda i: i == 0), ("4:14", "read of x", "fails", lambda i: i == 0)]),
+    ("a loop that always sets", "int f(int i) {\n  int x;\n  for (int k = 0; k < 2; k++) { x = k; }\n  return x + i;\n}\n",
+     [("4:10", "read of x", "never", None)]),
+    ("a new object each turn", "int f(int i) {\n  int s = 0;\n  for (int k = 0; k < 2; k++) {\n    int x;\n    if (k == 0 || i == 4) { x = 1; }\n    s += x;\n  }\n  return s;\n}\n",
+     [("6:10", "read of x", "fails", lambda i: i != 4)]),
+    ("an object around the turns", "int f(int i) {\n  int s = 0;\n  int x;\n  for (int k = 0; k < 2; k++) {\n    if (k == 0) { x = 1; }\n    s += x;\n  }\n  return s + i;\n}\n",
+     [("6:10", "read of x", "never", None)]),
+    ("a switch passes by the declaration", "int f(int i) {\n  switch (i) { case 1: int x = 3; break; case 2: return x; default: x = 2; }\n  return 0;\n}\n",
+     [("2:57", "read of x", "open", None)]),
+    ("its own initializer", "int f(int i) {\n  int x = x + i;\n  return x;\n}\n", [("2:11", "read of x", "open", None)]),
+    ("its own initializer, each turn", "int f(int i) {\n  while (i > 0) {\n    int x = 1;\n    { int x = x + 1; i = 0; }\n    i = x - 1;\n  }\n  return i;\n}\n",
+     [("4:15", "read of x", "open", None)]),
+    ("a name declared twice", "int f(int i) {\n  int x = 1;\n  int s;\n  {\n    int x;\n    if (i > 3) { x = 2; }\n    s = x;\n  }\n  return x + s;\n}\n",
+     [("7:9", "read of x", "open", None)]),
+    ("a function that recurs", "int f(unsigned char i) {\n  int x;\n  if (i > 0) { x = f(i - 1); }\n  return x;\n}\n",
+     [("4:10", "read of x", "open", None)]),
+    ("elements", "int f(int i) {\n  int a[2];\n  a[0] = i;\n  return a[1];\n}\n",
+     [("2:7", "reads of elements of a", "open", None), ("3:4", "", "never", None), ("4:11", "", "never", None)]),
+    ("elements that are lent", "int g(int p[2]) { return p[0]; }\nint f(int i) {\n  int a[2];\n  return g(a) + i;\n}\n",
+     [("1:27", "", "never", None), ("3:7", "reads of elements of a", "open", None)]),
+    ("elements with a list", "int f(int i) {\n  int a[2] = {1};\n  return a[i & 1];\n}\n", [("3:11", "", "never", None)]),
+    ("no return", "int g(int i) {\n  if (i > 3) { return 1; }\n}\nint f(int i) {\n  g(i);\n  return g(i + 1);\n}\n",
+     [("6:10", "use of the result of g", "fails", lambda i: i + 1 <= 3 or i == 2**31 - 1)]),
+    ("no return that isn't used", "int g(int i) {\n  if (i > 3) { return 1; }\n}\nint f(int i) {\n  g(i);\n  return i;\n}\n", []),
+    ("no return by another call", "int g(int i) {\n  if (i > 3) { return 1; }\n}\nint f(int i) {\n  g(i);\n  return g(5);\n}\n",
+     [("6:10", "use of the result of g", "open", None)]),
+    ("a return behind each test", "int g(int i) {\n  if (i > 3) { return 1; }\n  if (i <= 3) { return 2; }\n}\nint f(int i) {\n  return g(i);\n}\n",
+     [("6:10", "use of the result of g", "never", None)]),
+    ("a loop without an end", "int f(int i) {\n  while (1) {\n    if (i < 1000) { return i; }\n    i = 0;\n  }\n}\n", []),
+    ("the entry ends without a value", "int f(int i) {\n  if (i > 3) { return 1; }\n}\n", [("1:5", "use of the result of f", "fails", lambda i: i <= 3)]),
+    ("the last call", "void h(void) {}\nint f(int i) {\n  if (i > 3) { return 1; }\n  h();\n}\n", [("2:5", "use of the result of f", "fails", lambda i: i <= 3)]),
+    ("a switch without default", "int f(int i) {\n  switch (i & 1) { case 0: return 3; case 1: return 4; }\n}\n",
+     [("1:5", "use of the result of f", "never", None)]),
+]  # fmt: skip
+
+
+def what_was_never_set(folder: str) -> Iterator[bool]:
+    """Each read that may be of an object that was never set has a row, and each result that may be none; others have none."""
+    for number, (_, text, due) in enumerate(UNSET):
+        put(folder, {f"{number}.c": text})
+        ended = run(folder, ["rte", "f", f"{number}.c", "-o", f"d{number}"])
+        rows = report(folder, f"d{number}")["rows"]
+        found = [(row["place"].partition(":")[2], row["verdict"]) for row in rows]
+        yield found == [(place, verdict) for place, _, verdict, _ in due] 
+        yield ended.returncode == int(any(verdict != "never" for _, _, verdict, _ in due))
+        for row, (_, what, _, is_right) in zip(rows, due):
+            yield what in row["what"]
+            yield is_right is None or is_right(*row["input"]["args"])
+
+
+def main_needs_no_return(folder: str) -> Iterator[bool]:
+    """The result of `main` is 0 where it ends without a `return` (C11 5.1.2.2.3)."""
+    put(folder, {"a.c": "int main(void) {\n}\n"})
+    ended = run(folder, ["rte", "main", "a.c", "-o", "d"])
+    yield (ended.returncode, report(folder)["rows"]) == (0, [])
+
+
+def certificates_of_what_was_never_set(folder: str) -> Iterator[bool]:
+    """A read that is never of an unset object has certificates that `check` accepts in a process of its own."""
+    for number, (_, text, due) in enumerate(UNSET[:3]):
+        put(folder, {"a.c": text})
+        run(folder, ["rte", "f", "a.c", "-o", str(number)])
+    (row,) = report(folder, "2")["rows"]
+    with open(os.path.join(folder, "2", row["folder"], "campaign.json"), encoding="utf-8") as file:
+        query = json.load(file)["query"]
+    yield len(row["goals"]) == 1 and row["verdict"] == "never"
+    path = os.path.join("2", row["folder"], "certificates", f"{row['goals'][0]}.cert")
+    yield program(folder, "check", "f", query, str(row["goals"][0]), path, "a.c", "--ends", "any").returncode == 0
+
+
+def what_isnt_looked_at(folder: str) -> Iterator[bool]:
+    """Each report says what it leaves out: the text, rte.json, rte.sarif and the page."""
+    put(folder, {"a.c": "int g(int x) { return x; }\n" + DEAD})
+    missing = MISSING.removeprefix("not looked at: ").split("; ")
+    others = "functions that f doesn't call (g)"
+    for words, due in (([], [*missing, others]), (["--ends", "any", "--frames", "64"], [missing[0], others])):
+        ended = run(folder, ["rte", "f", "a.c", "-o", f"d{len(words)}", *words])
+        yield f"not looked at: {'; '.join(due)}\n" in ended.stdout
+        yield report(folder, f"d{len(words)}")["not_looked_at"] == due
+        with open(os.path.join(folder, f"d{len(words)}", "rte.sarif"), encoding="utf-8") as file:
+            yield json.load(file)["runs"][0]["properties"] == {"notLookedAt": due}
+
+
+TRIED = [(GRAPH, what_was_never_set), (GRAPH, main_needs_no_return), (GRAPH, certificates_of_what_was_never_set),
+         (GRAPH, what_isnt_looked_at), (GRAPH, wrong_words), (GRAPH, constants_that_fail), (GRAPH, another_order_fails), (GRAPH, behind_an_else),
          (GRAPH, edges_are_those_of_the_program), (GRAPH, a_step_without_operation),
          (GRAPH, planted_faults_are_red), (("graph", "gcc"), gcc_says_the_same),
          (GRAPH, certificates_stand_alone), (GRAPH, a_folder_goes_on), (GRAPH, an_input_that_is_wrong_isnt_told),

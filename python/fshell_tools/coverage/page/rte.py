@@ -13,6 +13,7 @@ from fshell_tools.core.program import Failure
 from fshell_tools.core.reports import BOUNDS
 from fshell_tools.coverage.page.report_context import take_judged
 from fshell_tools.rte import checked_calls, search
+from fshell_tools.rte.export import lines_of
 from fshell_tools.rte.rows import Verdict
 
 TEMPLATE = os.path.join(os.path.dirname(os.path.realpath(__file__)), "rte.html")
@@ -77,7 +78,7 @@ class Page:
             self.entry, self.bounds, self.ends = (self.value[name] for name in ("entry", "bounds", "ends"))
             folder_of = Folder(folder)
             take_judged(folder_of, folder_of.asked())
-            self.said = list(sufficiency.of_value(self.value["limits"]).lines())
+            self.said = [*sufficiency.of_value(self.value["limits"]).lines(), *lines_of(self.value["not_looked_at"])]
             self.files = self.files_of([*self.value["sources"], *self.originals()])
             self.rows = [self.row(number, row) for number, row in enumerate(self.value["rows"], 1)]
             self.files = [one for one in self.files if not self.is_written(one)]
@@ -142,7 +143,7 @@ class Page:
             return []
         bounds = [word for name in BOUNDS for word in (f"--{name}", str(self.bounds[name]))]
         inner = os.path.join(folder, value.get("folder", ""))
-        query = self.query_of(value.get("folder", ""))
+        query, ends = self.question_of(value.get("folder", ""))
         told = [
             [
                 self.entry,
@@ -154,19 +155,19 @@ class Page:
             ]
             for goal in value["goals"]
         ]
-        made = [shlex.join(["fshell", "check", *words, "--ends", self.ends]) for words in told]
+        made = [shlex.join(["fshell", "check", *words, "--ends", ends]) for words in told]
         if verdict is not Verdict.WITHIN:
             words = [self.entry, os.path.join(folder, "bounds.cert"), *self.value["sources"], *bounds]
             made.append(shlex.join(["fshell", "check-bounds", *words]))
         return made
 
-    def query_of(self, inner: str) -> str:
-        """The query of the goals of a row, by the folder `inner` that has its certificates, or of all where it is
-        empty."""
+    def question_of(self, inner: str) -> tuple[str, str]:
+        """The query of the goals of a row, and which ends of runs count for it, by the folder `inner` that has its
+        certificates, or of all where it is empty."""
         if not inner:
-            return search.ENDINGS
-        query: str = json.loads(program.read(os.path.join(self.folder, inner, "campaign.json")))["query"]
-        return query
+            return search.ENDINGS, self.ends
+        asked = json.loads(program.read(os.path.join(self.folder, inner, "campaign.json")))
+        return asked["query"], asked["ends"]
 
     def count(self, mark: str) -> int:
         """How many rows have a mark."""
