@@ -8,6 +8,7 @@ from collections.abc import Callable, Iterator, Sequence
 from typing import Any
 
 from tests import environment
+from tests.models.gcc import loading
 from tests.tools import Case, put, run, told
 
 GRAPH = ("graph",)
@@ -164,7 +165,9 @@ def wrong_words(folder: str) -> Iterator[bool]:
     """What isn't called as it is told is one line behind the usage, and status 2."""
     for words in ("", "f", "f a.c", "f a.c -o d --ends returned", "f a.c -o d --turns x"):
         ended = run(folder, ["rte", *words.split()])
-        yield ended.returncode == 2 and ended.stdout == "" and ended.stderr.splitlines()[-1].startswith("fshell rte: error: ")
+        yield ended.returncode == 2 and ended.stdout == "" and ended.stderr.splitlines()[-1].startswith(
+            "fshell rte: error: "
+        )
         yield not os.path.exists(os.path.join(folder, "d"))
 
 
@@ -217,7 +220,11 @@ def certificates_stand_alone(folder: str) -> Iterator[bool]:
     ended = run(folder, ["rte", "f", "a.c", "-o", "d"])
     places = ["a.c:3:12: never: division a / b", "a.c:8:14: never: index table[n]", "a.c:11:13: never: shift 1u << a",
               "a.c:13:3: never: assert(a <= 255)"]  # fmt: skip
-    yield (ended.returncode, ended.stdout, ended.stderr) == (0, told(*places, SUFFICE[:-1], MISSING, "rows 4: 4 never"), "")
+    yield (ended.returncode, ended.stdout, ended.stderr) == (
+        0,
+        told(*places, SUFFICE[:-1], MISSING, "rows 4: 4 never"),
+        "",
+    )
     yield program(folder, "check-bounds", "f", "d/bounds.cert", "a.c").returncode == 0
     query = "cover NODES(ID)$"
     goals = [line.split(" ", 2)[1:] for line in program(folder, "goals", query, "a.c").stdout.splitlines()[1:]]
@@ -655,7 +662,7 @@ def what_was_never_set(folder: str) -> Iterator[bool]:
         ended = run(folder, ["rte", "f", f"{number}.c", "-o", f"d{number}"])
         rows = report(folder, f"d{number}")["rows"]
         found = [(row["place"].partition(":")[2], row["verdict"]) for row in rows]
-        yield found == [(place, verdict) for place, _, verdict, _ in due] 
+        yield found == [(place, verdict) for place, _, verdict, _ in due]
         yield ended.returncode == int(any(verdict != "never" for _, _, verdict, _ in due))
         for row, (_, what, _, is_right) in zip(rows, due):
             yield what in row["what"]
@@ -695,7 +702,15 @@ def what_isnt_looked_at(folder: str) -> Iterator[bool]:
             yield json.load(file)["runs"][0]["properties"] == {"notLookedAt": due}
 
 
-TRIED = [(GRAPH, what_was_never_set), (GRAPH, main_needs_no_return), (GRAPH, certificates_of_what_was_never_set),
+def random_programs(folder: str) -> Iterator[bool]:
+    """Of ten programs of models/gcc/error_verdicts each row is as gcc's sanitizers and the marks at reads say, over all inputs."""
+    made = loading.load("error_verdicts")
+    for seed in range(1, 11):
+        agree, _, wrong = made.tried(seed, ["gcc"])
+        yield agree > 0 and wrong == []
+
+
+TRIED = [(("graph", "gcc"), random_programs), (GRAPH, what_was_never_set), (GRAPH, main_needs_no_return), (GRAPH, certificates_of_what_was_never_set),
          (GRAPH, what_isnt_looked_at), (GRAPH, wrong_words), (GRAPH, constants_that_fail), (GRAPH, another_order_fails), (GRAPH, behind_an_else),
          (GRAPH, edges_are_those_of_the_program), (GRAPH, a_step_without_operation),
          (GRAPH, planted_faults_are_red), (("graph", "gcc"), gcc_says_the_same),
