@@ -132,6 +132,11 @@ def ends_with(started: "subprocess.Popen[bytes]", folder: str, number: int) -> b
     return is_searching and is_over
 
 
+def heeds_signals() -> None:
+    """Has a process heed SIGINT, which a shell that runs the cases in the background has its processes ignore."""
+    signal.signal(signal.SIGINT, signal.SIG_DFL)
+
+
 def killed_runs_leave_no_jobs(folder: str) -> Iterator[bool]:
     """The searches of a campaign, here and on other machines, and of mcdc end with the tool, whatever ends it; by themselves they
     never would."""
@@ -145,7 +150,7 @@ def killed_runs_leave_no_jobs(folder: str) -> Iterator[bool]:
         for number in (signal.SIGKILL, signal.SIGTERM, signal.SIGINT):
             launcher = os.path.join(environment.ROOT, "bin", "fshell")
             started = subprocess.Popen([launcher, *words], cwd=folder, env=own, stdin=subprocess.DEVNULL,
-                                       stdout=subprocess.DEVNULL, stderr=subprocess.DEVNULL)  # fmt: skip
+                                       stdout=subprocess.DEVNULL, stderr=subprocess.DEVNULL, preexec_fn=heeds_signals)  # fmt: skip
             yield ends_with(started, folder, number)
             yield started.returncode == (-number if number == signal.SIGKILL else 2)
             shutil.rmtree(os.path.join(folder, "new"), ignore_errors=True)
