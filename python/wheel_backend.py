@@ -9,6 +9,9 @@ from typing import Any
 
 HERE = os.path.dirname(os.path.abspath(__file__))
 KEPT = (".py", ".html", ".css", ".c", ".h")
+RELEASE = os.path.join(HERE, "..", "release")
+DOCS = os.path.join(HERE, "..", "docs")
+EXECUTABLE = 0o100755 << 16
 
 
 def _metadata() -> tuple[str, dict[str, str]]:
@@ -26,11 +29,30 @@ def _metadata() -> tuple[str, dict[str, str]]:
         *(f"Requires-Dist: {one}" for one in project["dependencies"]),
     ]
     scripts = ["[console_scripts]", *(f"{name} = {call}" for name, call in project["scripts"].items())]
-    wheel = ["Wheel-Version: 1.0", "Generator: fshell", "Root-Is-Purelib: true", "Tag: py3-none-any"]
+    tag = f"py3-none-{'linux_x86_64' if has_program() else 'any'}"
+    pure = "false" if has_program() else "true"
+    wheel = ["Wheel-Version: 1.0", "Generator: fshell", f"Root-Is-Purelib: {pure}", f"Tag: {tag}"]
     texts = {"METADATA": lines, "WHEEL": wheel, "entry_points.txt": scripts}
     return f"{project['name'].replace('-', '_')}-{project['version']}", {
         name: "\n".join(text) + "\n" for name, text in texts.items()
     }
+
+
+def has_program() -> bool:
+    """Whether the release is beside this folder, whose program the wheel then has."""
+    return os.path.isfile(os.path.join(RELEASE, "fshell"))
+
+
+def of_release() -> dict[str, bytes]:
+    """The released program with its sums, and the documents that help is made of, by their names in the wheel."""
+    found = {}
+    if has_program():
+        for folder, to in ((RELEASE, "released"), (DOCS, "released/docs")):
+            for one in sorted(os.listdir(folder)):
+                if os.path.isfile(os.path.join(folder, one)):
+                    with open(os.path.join(folder, one), "rb") as file:
+                        found[f"fshell_tools/{to}/{one}"] = file.read()
+    return found
 
 
 def build_wheel(wheel_directory: str, config_settings: Any = None, metadata_directory: str | None = None) -> str:
@@ -42,12 +64,17 @@ def build_wheel(wheel_directory: str, config_settings: Any = None, metadata_dire
             if one.endswith(KEPT):
                 with open(os.path.join(at, one), "rb") as file:
                     files[os.path.relpath(os.path.join(at, one), HERE)] = file.read()
+    files |= of_release()
     rows = []
-    with zipfile.ZipFile(os.path.join(wheel_directory, f"{name}-py3-none-any.whl"), "w", zipfile.ZIP_DEFLATED) as made:
+    wheel = f"{name}-py3-none-{'linux_x86_64' if has_program() else 'any'}.whl"
+    with zipfile.ZipFile(os.path.join(wheel_directory, wheel), "w", zipfile.ZIP_DEFLATED) as made:
         for path in sorted(files):
-            made.writestr(zipfile.ZipInfo(path), files[path])
+            entry = zipfile.ZipInfo(path)
+            if path == "fshell_tools/released/fshell":
+                entry.external_attr = EXECUTABLE
+            made.writestr(entry, files[path], zipfile.ZIP_DEFLATED)
             digest = base64.urlsafe_b64encode(hashlib.sha256(files[path]).digest()).rstrip(b"=").decode()
             rows.append(f"{path},sha256={digest},{len(files[path])}\n")
         record = f"{name}.dist-info/RECORD"
         made.writestr(zipfile.ZipInfo(record), "".join(rows) + f"{record},,\n")
-    return f"{name}-py3-none-any.whl"
+    return wheel

@@ -53,6 +53,8 @@ def run(words: list[str]) -> int:
 def start(words: list[str]) -> int:
     """Becomes the proved program with these words; the status, where it can't be started, is 2."""
     path = program.program()
+    if words[0] not in commands.ALL and words[0] != "--explain":
+        print(f"fshell: {words[0]} is no command{near(words[0])}", file=sys.stderr, flush=True)
     os.execvp(path, [path, *words])
 
 

@@ -69,9 +69,9 @@ class OtherRuns:
 
     def judged(self, goals: list[Goal], refuted: set[int], limits: Limits) -> dict[int, tuple[Verdict, Ending | None]]:
         """What is said of each goal that no counted run hits, by its number, and the run that shows it."""
-        others = self.of_goals(refuted, limits.make_unreachable)
-        if not others:
+        if not refuted:
             return {}
+        others = self.of_goals(refuted, limits.make_unreachable)
         judge = Judge(self.faces, self.question, limits, self.stops, self.asked.query)
         return {
             goal.number: judge.verdict(goal.text, others.get(goal.number, other_ends.UNASKED))

@@ -174,5 +174,5 @@ class Told:
             made = len(self.conditions.given)
             why += [f"MC/DC: {one}" for one in verdicts.failures(self.conditions.tally, at_least, made)]
         found = not_allowed(self.others.faces, self.traps, allowed) if self.traps else []
-        why += [f"a run is {one.end} at {one.place}" for one in found]
+        why += [f"a run ends at {one.place}, {one.end}" for one in found]
         return verdicts.gate_line(at_least, why) + "\n", program.OPEN if why else program.DONE

@@ -16,7 +16,7 @@ def why(results: Results) -> list[str]:
     found = [f"no entry reaches the function {name}, so nothing of it is tested" for name in results.unreached]
     found += _covered(results)
     found += _mcdc(results)
-    found += [f"a run of {one.entry} is {one.end} at {one.place}, by {one.input}" for one in results.forbidden_traps]
+    found += [f"a run of {one.entry} ends at {one.place}, {one.end}, by {one.input}" for one in results.forbidden_traps]
     found += _errors(results) if gate.no_run_time_errors else []
     found += _requirements(results) if gate.requirements else []
     return found

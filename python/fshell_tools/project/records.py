@@ -111,4 +111,4 @@ class Trap:
     @property
     def text(self) -> str:
         """What is told of it, without its place."""
-        return f"a run of {self.entry} is {self.end}: {self.what}, by the input {self.input}"
+        return f"a run of {self.entry} ends here, {self.end}: {self.what}, by the input {self.input}"

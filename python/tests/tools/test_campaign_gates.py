@@ -173,7 +173,8 @@ def many_easy_goals_take_few_seconds(folder: str) -> Iterator[bool]:
     ended = campaign(folder, "f", "cover @CONDITIONEDGE -> @CONDITIONEDGE", "ten.c", "--jobs", "2")
     after = resource.getrusage(resource.RUSAGE_CHILDREN)
     yield ended.returncode == 0 and " 0 undecided, 240 unreachable\n" in ended.stdout
-    yield sum(name.endswith(".cert") for name in held(folder, "new")) == 240
+    # (of each goal one over the runs that count, and one over runs of any end)
+    yield sum(name.endswith(".cert") for name in held(folder, "new")) == 480
     # (some five on a quiet machine)
     yield after.ru_utime + after.ru_stime - before.ru_utime - before.ru_stime < 10
 

@@ -8,6 +8,8 @@ import re
 import resource
 import shutil
 import subprocess
+import sys
+import zipfile
 from collections.abc import Iterator
 
 from fshell_tools import cli, commands
@@ -66,6 +68,30 @@ def installed_adapt_has_its_models(folder: str) -> Iterator[bool]:
     words = ["f", "ad/overflow.h", "ad/a.c", "-o", "d"]
     ended = subprocess.run([f"{prefix}/bin/fshell", "rte", *words], cwd=folder, capture_output=True, text=True)
     yield ended.returncode == 1 and "\na.c:5:19: fails: overflow a[x & 3] - x: " in "\n" + ended.stdout
+
+
+def a_wheel_has_the_program(folder: str) -> Iterator[bool]:
+    """What `pip install ./python` unpacks: the tools, which find the released program beside them, and its sums."""
+    building = f"import wheel_backend; print(wheel_backend.build_wheel({folder!r}))"
+    made = subprocess.run([sys.executable, "-c", building], cwd=environment.TOOLS, capture_output=True, text=True).stdout
+    with zipfile.ZipFile(os.path.join(folder, made.strip())) as wheel:
+        wheel.extractall(os.path.join(folder, "site"))
+        (program,) = (one for one in wheel.infolist() if one.filename == "fshell_tools/released/fshell")
+    yield program.external_attr >> 16 & 0o111 == 0o111
+    path = os.path.join(folder, "site", program.filename)
+    os.chmod(path, 0o755)  # (as pip does by that mode)
+    own = {name: value for name, value in os.environ.items() if name != "FSHELL"} | {"PYTHONPATH": os.path.join(folder, "site")}
+    put(folder, {"both.c": example("counting/both.c")})
+
+    def installed(*words: str) -> str:
+        words = (sys.executable, "-c", "import sys; from fshell_tools.cli import main; sys.exit(main())", *words)
+        return subprocess.run(words, cwd=folder, env=own, capture_output=True, text=True).stdout
+
+    with open(os.path.join(environment.ROOT, "release", "fshell.sha256"), encoding="ascii") as file:
+        yield installed("--version").splitlines()[1] == f"program {file.read().split()[0]} {path}"
+    yield installed("goals", "cover @LINE(9)", "both.c").startswith("goals 1\n")
+    yield installed("explain", "cover @LINE(9)", "both.c").startswith("goal 1:\n")
+    yield installed("help", "goals").startswith("usage: fshell goals QUERY SOURCE...\n")
 
 
 def nothing_is_left_half_copied(folder: str) -> Iterator[bool]:
@@ -345,7 +371,7 @@ MODULE = (
     "python3-pycparser",
     "python3-jinja2",
 )  # (a package runs by Debian's Python)
-TRIED = [((), installed_tools_work), (("pycparser", "gcc", "graph"), installed_adapt_has_its_models), ((), nothing_is_left_half_copied),
+TRIED = [((), a_wheel_has_the_program), ((), installed_tools_work), (("pycparser", "gcc", "graph"), installed_adapt_has_its_models), ((), nothing_is_left_half_copied),
          ((), what_others_put_there_stays), ((), what_was_put_there_is_taken_back), ((), a_list_that_leads_elsewhere_is_refused),
          (("dpkg-deb",), a_package_is_written_through_no_link),
          (("bash",), completion_knows_words), (("bash",), completion_knows_each_option), ((), documents_and_pages_name_each_option),

@@ -141,9 +141,9 @@ def of_lists(folder: str) -> Iterator[bool]:
     yield readme_lists.faults(page, *given) == [] and readme_lists.without_cases(of_tools + "## fshell package\n") == []
     for name in ("runs", "check", "fshell page", "docs/A.md"):
         yield readme_lists.faults(page.replace(f"`{name}`", name), *given) == [f"it doesn't name `{name}`"]
-    yield readme_lists.faults(page + "word " * 894, *given) == []
-    yield len(readme_lists.faults(page + "word " * 895, *given)) == 1
-    yield readme_lists.without_cases(of_tools + "## bin/nothing\n") == ["nothing has no cases"]
+    yield readme_lists.faults(page + "word " * 893, *given) == []
+    yield len(readme_lists.faults(page + "word " * 894, *given)) == 1
+    yield readme_lists.without_cases(of_tools + "## fshell nothing\n") == ["nothing has no cases"]
     named = "Kit: `rattle-kit-1 logic a1` (`rt version`).\n"
     yield readme_lists.of_kit(named, "rattle-kit-1 logic a1") == [] and len(readme_lists.of_kit(named, "rattle-kit-2 logic a1")) == 1
 

@@ -136,7 +136,7 @@ def keys_go_to_every_report(folder: str) -> Iterator[bool]:
     yield [rows[name]["state"] for name in ("R-1", "R-2", "R-3")] == ["tested", "shown", "holds"]
     yield rows["R-1"]["tests"] == ["TC-1"] and len(rows["R-3"]["certificates"]) == 1
     certificate = os.path.join(folder, DIRECTORY, rows["R-3"]["certificates"][0])
-    words = ["gate", "press", "cover {lamp > 1}", "1", certificate, "lamp.c"]
+    words = ["check", "press", "cover {lamp > 1}", "1", certificate, "lamp.c"]
     yield run(folder, words).stdout == "goal 1 refuted turns 4 frames 8 answers 16\n"
 
 
@@ -162,10 +162,10 @@ def the_gate_fails(folder: str) -> Iterator[bool]:
     ended = project(folder, "run")
     lines = [line.partition(", by ")[0] for line in ended.stdout.splitlines() if line.startswith("the gate fails")]
     yield ended.returncode == 1 and lines == [
-        "the gate fails: run-time error: a run of f is ended at a.c:2:3",
-        "the gate fails: run-time error: a run of f is ended at a.c:3:3",
+        "the gate fails: a run of f ends at a.c:2:3, trapped assert",
+        "the gate fails: a run of f ends at a.c:3:3, trapped zero-divisor",
     ]
-    yield "a.c:2:3: error: a run of f is ended here, by args 7 [run-time-error]\n" in report(folder, "warnings.txt")
+    yield "a.c:2:3: error: a run of f ends here, trapped assert: assert(x != 7), by the input args 7 [run-time-error]\n" in report(folder, "warnings.txt")
     # C leaves open whether g is read before the call (6.5p2, 6.5.2.2p10), so that the guard isn't called unreachable
     put(
         folder,

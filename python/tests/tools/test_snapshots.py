@@ -58,7 +58,7 @@ def began(folder: str, text: str) -> None:
     program = f"'{environment.program()}'"
     put(folder, {**files, "script": SCRIPT % (f"'{folder}'", program), "next": SECOND if text == FIRST else FIRST})
     os.chmod(os.path.join(folder, "script"), 0o755)
-    put(folder, {"report": run(folder, ["fshell", "generate", "f", "cover ID", "a.c"]).stdout})
+    put(folder, {"report": run(folder, ["generate", "f", "cover ID", "a.c"]).stdout})
 
 
 def answered(folder: str, tool: str, at: int, back: int = NEVER) -> tuple[int, str, tuple[str, ...]]:

@@ -81,7 +81,7 @@ def a_campaign_tells_the_trap(folder: str) -> Iterator[bool]:
         if "run" in goal
     )
     yield [(one["place"], one["names"][-1]) for one in value["traps"]] == [("t.c:5:5", "f")]
-    yield "a run is trapped index at t.c:5:5" in ended.stdout.splitlines()[-1]
+    yield "a run ends at t.c:5:5, trapped index" in ended.stdout.splitlines()[-1]
     # what is allowed by name fails no gate
     ended = run(folder, [*words[:5], "--allow-traps", "t.c:5"])
     yield "trapped" not in ended.stdout.splitlines()[-1]
@@ -92,7 +92,7 @@ def a_campaign_tells_the_trap(folder: str) -> Iterator[bool]:
 def lcov_and_explain_leave_it_in(folder: str) -> Iterator[bool]:
     """The line on the way to the trap is one of the tracefile, and explain names the run."""
     put(folder, {"t.c": TABLE, "in": "1\n"})
-    put(folder, {"report": run(folder, ["fshell", "generate", "f", "cover ID", "t.c"]).stdout})
+    put(folder, {"report": run(folder, ["generate", "f", "cover ID", "t.c"]).stdout})
     ended = run(folder, ["lcov", "f", "in", "t.c", "--refuted", "report", "-o", "out"])
     with open(os.path.join(folder, "out"), encoding="utf-8") as file:
         text = file.read()
@@ -106,7 +106,7 @@ def what_is_behind_a_trap_is_not_unreachable(folder: str) -> Iterator[bool]:
     """A division by 0 is undefined (C11 6.5.5p5), so all behind it may be run; with the division taken out, line 8 is unreachable."""
     put(folder, {"b.c": BEHIND, "c.c": BEHIND.replace("1 / x", "1")})
     for name, due in (("b.c", "refuted for runs that return"), ("c.c", "unreachable")):
-        put(folder, {"report": run(folder, ["fshell", "generate", "f", "cover @LINE(4)+@LINE(8)", name]).stdout})
+        put(folder, {"report": run(folder, ["generate", "f", "cover @LINE(4)+@LINE(8)", name]).stdout})
         told = run(folder, ["explain", "report", name, "--entry", "f"]).stdout
         yield f"\ngoal 2: {due}\n" in told
         yield ("goal 1: unreachable" in told) is False
@@ -115,7 +115,7 @@ def what_is_behind_a_trap_is_not_unreachable(folder: str) -> Iterator[bool]:
 def blocked_runs_are_outside_of_the_assumptions(folder: str) -> Iterator[bool]:
     """By hand: each x above 3 is 4 at the assumption, which doesn't hold; lines 3 and 4 have blocked runs alone."""
     put(folder, {"a.c": ASSUMED})
-    put(folder, {"report": run(folder, ["fshell", "generate", "f", "cover @LINE(3)", "a.c"]).stdout})
+    put(folder, {"report": run(folder, ["generate", "f", "cover @LINE(3)", "a.c"]).stdout})
     yield "goal 1: outside of the assumptions, blocked at a.c:4:5" in run(
         folder, ["explain", "report", "a.c", "--entry", "f"]
     ).stdout
@@ -126,7 +126,7 @@ def a_requirement_that_a_failing_run_breaks(folder: str) -> Iterator[bool]:
     put(folder, {"t.c": TABLE, "fshell.toml": TOML.format(""), "needs.toml": NEEDS})
     ended = run(folder, ["run"])
     yield ended.returncode == 1 and "\nrequirement R-1: violated by a run that fails\n" in ended.stdout
-    yield "\nthe gate fails: a run of f is trapped index at t.c:5:5, by args " in ended.stdout
+    yield "\nthe gate fails: a run of f ends at t.c:5:5, trapped index, by args " in ended.stdout
     with open(os.path.join(folder, "fshell.out", "report", "module.sarif"), encoding="utf-8") as file:
         found = json.load(file)["runs"][0]["results"]
     yield ("run-time-error", "error") in [(one["ruleId"], one["level"]) for one in found]
@@ -140,7 +140,7 @@ def left_out(folder: str, seed: int) -> list[str]:
     made = trap_programs.Writer(seed)
     marked = trap_programs.executed(folder, made.text)
     put(folder, {"f.c": made.for_fshell, "in": "1\n"})
-    put(folder, {"report": run(folder, ["fshell", "generate", "f", "cover ID", "f.c"]).stdout})
+    put(folder, {"report": run(folder, ["generate", "f", "cover ID", "f.c"]).stdout})
     ended = run(folder, ["lcov", "f", "in", "f.c", "--refuted", "report", "-o", "out"])
     if ended.returncode:
         return [f"seed {seed}: {ended.stderr}"]

@@ -6,7 +6,7 @@ import subprocess
 from collections.abc import Iterator
 
 from tests import environment
-from tests.tools import SECONDS, put, run
+from tests.tools import SECONDS, put
 
 SMALL = {
     "README.md": "# Small\n\n| Command | Does |\n|---|---|\n| `count` | counts words |\n",
@@ -112,7 +112,8 @@ def this_repository(folder: str) -> Iterator[bool]:
         ("FOR", "docs/QUERY.md", "crates/fq_core/"),
         ("--turns", "docs/COMMANDS.md", "crates/command_words/"),
     ):
-        ended = run(folder, ["where", word, "--all"])
+        words = [os.path.join(environment.ROOT, "bin", "where"), word, "--all"]
+        ended = subprocess.run(words, cwd=folder, stdin=subprocess.DEVNULL, capture_output=True, text=True, timeout=SECONDS)
         yield ended.returncode == 0 and document in ended.stdout
         yield crate in ended.stdout
 

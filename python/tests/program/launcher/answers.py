@@ -34,7 +34,7 @@ def with_tools(tree: Tree) -> None:
 
 def help_needs_no_program(tree: Tree) -> Iterator[bool]:
     with_tools(tree)
-    for words in (["--help"], ["help"], []):
+    for words in (["--help"], ["help"]):
         ran = tree.call(tree.path("bin/fshell"), *words)
         yield ran.returncode == 0 and ran.stderr == "" and tree.calls() == []
         yield [name for name in commands.ALL if not re.search(rf"^  {name} +\w", ran.stdout, re.MULTILINE)] == []
