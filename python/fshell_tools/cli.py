@@ -46,7 +46,8 @@ def run(words: list[str]) -> int:
     sys.argv = ["fshell", *words] if command and command.inner else words
     if name == "adapt":
         gc.disable()  # (trees of sources stay to the end: looking for what is free among them takes a sixth of the time)
-    return program.ended(name, importlib.import_module(command.module if command else SCRIPTS[name]).main)
+    module = command.module if command else SCRIPTS[name]
+    return program.ended(name, lambda: int(importlib.import_module(module).main()))
 
 
 def start(words: list[str]) -> int:

@@ -6,6 +6,7 @@ which is called once a run; in an installed package it is the package's own. Eve
 """
 
 import argparse
+import codecs
 import contextlib
 import functools
 import io
@@ -17,6 +18,8 @@ import signal
 import subprocess
 import sys
 import tempfile
+import time
+import traceback
 from collections.abc import Callable, Iterator, Sequence
 from dataclasses import dataclass
 from typing import IO
@@ -76,7 +79,8 @@ def program() -> str:
 
 def started(words: Sequence[str], folder: str | None, stdout: int | IO[bytes]) -> subprocess.CompletedProcess[bytes]:
     """The program's process, at its end. A write past a limit of the file's size is a fault of the write, as by
-    bin/fshell. It reads the sources that were taken. Raises Failure where it can't be started, or may have read others."""
+    bin/fshell. It reads the sources that were taken. Raises Failure where it can't be started, or may have read others.
+    """
     try:
         ended = processes.run([program(), *words], cwd=snapshots.folder_of(folder), stdin=subprocess.DEVNULL, stdout=stdout, stderr=subprocess.PIPE,
                               restore_signals=False)  # fmt: skip
@@ -91,7 +95,7 @@ def started(words: Sequence[str], folder: str | None, stdout: int | IO[bytes]) -
 def run(words: Sequence[str], folder: str | None = None) -> Ended:
     """What the program answers to these words."""
     ended = started(words, folder, subprocess.PIPE)
-    return Ended(ended.returncode, ended.stdout.decode(), ended.stderr.decode())
+    return Ended(ended.returncode, *(text.decode(errors="surrogateescape") for text in (ended.stdout, ended.stderr)))
 
 
 def answer(words: Sequence[str], folder: str | None = None) -> str:
@@ -198,6 +202,15 @@ def jobs(word: str) -> int:
     return int(word)
 
 
+def seconds_of_report() -> int:
+    """The time that a report has, in seconds since 1970: SOURCE_DATE_EPOCH where that is set, so that two reports of one work are
+    the same, and else now. Raises Failure where it is set and is no number of at most 11 digits."""
+    given = os.environ.get("SOURCE_DATE_EPOCH", "")
+    if given and not re.fullmatch(r"[0-9]{1,11}", given):
+        raise Failure("SOURCE_DATE_EPOCH is no number of seconds since 1970")
+    return int(given) if given else int(time.time())
+
+
 @contextlib.contextmanager
 def as_file(text: str) -> Iterator[str]:
     """A file with a text, as long as it is used."""
@@ -223,6 +236,18 @@ def give(text: str, path: str | None) -> None:
         write_whole(path, text)
 
 
+def _told_byte(fault: UnicodeError) -> tuple[bytes, int]:
+    """What standard error has for a letter that UTF-8 hasn't: the byte of a name that isn't UTF-8, or the letter's number."""
+    assert isinstance(fault, UnicodeEncodeError)
+    code = ord(fault.object[fault.start])
+    return bytes([code - 0xDC00]) if 0xDC80 <= code <= 0xDCFF else b"\\u%04x" % code, fault.start + 1
+
+
+def one_line(text: str) -> str:
+    """A text as one line that a terminal shows as it is: its control characters are written as their numbers."""
+    return re.sub(r"[\x00-\x1f\x7f-\x9f]", lambda found: f"\\x{ord(found[0]):02x}", " ".join(text.splitlines()))
+
+
 def _open_streams() -> None:
     """Makes the standard streams such that all that tools do with them ends well, or as an OSError: UTF-8 whatever the
     locale, and the null device for standard input or error where they are closed."""
@@ -232,9 +257,10 @@ def _open_streams() -> None:
         sys.stderr = open(os.devnull, "w", encoding="utf-8")
     if sys.stdout is None:
         raise Failure("standard output is closed")
-    for stream in (sys.stdout, sys.stderr):
+    codecs.register_error("fshell.told", _told_byte)
+    for stream, errors in ((sys.stdout, "surrogateescape"), (sys.stderr, "fshell.told")):
         if isinstance(stream, io.TextIOWrapper):
-            stream.reconfigure(encoding="utf-8", errors="surrogateescape")
+            stream.reconfigure(encoding="utf-8", errors=errors)
 
 
 def _told_changes(tool: str, status: int) -> int:
@@ -244,7 +270,7 @@ def _told_changes(tool: str, status: int) -> int:
         return status
     sys.stdout.flush()
     line = f"changed meanwhile: {', '.join(names)}; what is reported is of the versions before, of sum {snapshots.taken_sum()}"
-    print(f"{tool}: {' '.join(line.splitlines())}", file=sys.stderr)
+    print(f"{tool}: {one_line(line)}", file=sys.stderr)
     return FAILED
 
 
@@ -261,8 +287,21 @@ def _take_signals() -> None:
             signal.signal(number, _stop)
 
 
+def _why(fault: Exception) -> str:
+    """Why a tool ended. What no part of it foresaw is told with its kind, as a fault of the tool; where FSHELL_TRACEBACK is set
+    its calls stand before."""
+    if isinstance(fault, Failure):
+        return str(fault)
+    if isinstance(fault, OSError) and fault.strerror:
+        return f"{os.fsdecode(fault.filename)}: {fault.strerror}" if fault.filename else fault.strerror
+    if os.environ.get("FSHELL_TRACEBACK"):
+        traceback.print_exception(fault)
+    return f"it can't go on ({type(fault).__name__}: {fault})"
+
+
 def ended(tool: str, main: Callable[[], int]) -> int:
-    """The status of a tool; a failure is one line on standard error. One that can't write its answer has failed."""
+    """The status of a tool; a failure is one line on standard error, also one that no part of the tool foresaw. One that can't
+    write its answer has failed."""
     try:
         _open_streams()
         _take_signals()
@@ -270,15 +309,12 @@ def ended(tool: str, main: Callable[[], int]) -> int:
             return _told_changes(tool, main())
         finally:
             sys.stdout.flush()
-    except Failure as failure:
-        print(f"{tool}: {' '.join(str(failure).splitlines())}", file=sys.stderr)
     except BrokenPipeError:
         pass
-    except OSError as fault:
-        named = f"{fault.filename}: " if fault.filename else ""
-        print(f"{tool}: {named}{fault.strerror}", file=sys.stderr)
     except KeyboardInterrupt:
         print(f"{tool}: stopped", file=sys.stderr)
+    except Exception as fault:
+        print(f"{tool}: {one_line(_why(fault))}", file=sys.stderr)
     if sys.stdout is not None:
         # (what is left to be written can't be)
         os.dup2(os.open(os.devnull, os.O_WRONLY), sys.stdout.fileno())

@@ -159,20 +159,26 @@ def package(folder: str, version: str, maintainer: str) -> str:
     version = version or time.strftime("0.%Y%m%d.%H%M", time.gmtime(seconds))
     with tempfile.TemporaryDirectory() as top:
         os.chmod(top, 0o755)
-        install.install(os.path.join(top, "usr"))
+        install.install(os.path.join(top, "usr"), is_listed=False)
         fitted(top)
         arch = described(top, version, maintainer, seconds)
         dated(top, seconds)
         made = os.path.join(folder, f"fshell_{version}_{arch}.deb")
-        words = ["dpkg-deb", "--root-owner-group", "-Zxz", "--build", top, made + ".new"]
+        built(top, made, seconds)
+    return made
+
+
+def built(top: str, made: str, seconds: int) -> None:
+    """Has Debian's tool make the package, in a folder of its own beside its place, so that no link there is written through. Raises
+    Failure where it can't."""
+    with tempfile.TemporaryDirectory(prefix=".new.", dir=os.path.dirname(made)) as beside:
+        new = os.path.join(beside, "new.deb")
+        words = ["dpkg-deb", "--root-owner-group", "-Zxz", "--build", top, new]
         own = {**os.environ, "SOURCE_DATE_EPOCH": str(seconds)}
         ended = subprocess.run(words, env=own, capture_output=True, text=True, check=False)
         if ended.returncode:
-            if os.path.exists(made + ".new"):
-                os.remove(made + ".new")
             raise Failure((ended.stderr.strip().splitlines() or [f"dpkg-deb ended with {ended.returncode}"])[-1])
-        os.replace(made + ".new", made)
-    return made
+        os.replace(new, made)
 
 
 def parser_of_words() -> argument_parsers.Parser:

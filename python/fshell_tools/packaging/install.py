@@ -1,6 +1,7 @@
 """fshell install: puts the program, the tools, their manual pages and completion for bash, zsh and fish under a folder.
 
-PREFIX/bin gets `fshell`, which needs PREFIX/lib/fshell. --check says which of the things that tools need are there.
+PREFIX/bin gets `fshell`, which needs PREFIX/lib/fshell. A file of others is replaced only with --force, and --uninstall takes back
+what was put there. --check says which of the things that tools need are there.
 """
 
 import importlib.util
@@ -8,15 +9,23 @@ import os
 import shutil
 import subprocess
 import sys
+from collections.abc import Iterator
 
 from fshell_tools import cli
 from fshell_tools.campaign.main import has_parallel
 from fshell_tools.core import argument_parsers, program
 from fshell_tools.core.program import ROOT, Failure
+from fshell_tools.packaging import placing
+from fshell_tools.packaging.placing import Item
 from fshell_tools.user_help import completion, manual_pages
 
 # what fshell --help and fshell --explain answer from, beside the documents
 ANSWERED_FROM = ("bin/help.awk", "bin/refusal.awk", "crates/fq_core/specs/Code.antt", "README.md")
+COMPLETIONS = {
+    "bash": "share/bash-completion/completions/fshell",
+    "zsh": "share/zsh/site-functions/_fshell",
+    "fish": "share/fish/vendor_completions.d/fshell.fish",
+}
 PROGRAM = """#!/bin/sh
 # Prints the path of FShell's program.
 printf '%s\\n' "$(dirname -- "$(dirname -- "$(readlink -f -- "$0")")")/program"
@@ -63,34 +72,18 @@ def put(text: str, path: str, is_program: bool = False) -> None:
         os.chmod(path, 0o755)
 
 
-def copy(source: str, path: str) -> None:
-    """Copies a file into its place, with its mode. Raises Failure where it can't be written."""
-    try:
-        shutil.copy(source, path + ".new")
-        os.replace(path + ".new", path)
-    except OSError as fault:
-        if os.path.isfile(path + ".new"):
-            os.remove(path + ".new")
-        raise Failure(f"{path}: {fault.strerror}") from None
+def copied(source: str, path: str) -> Item:
+    """What a file becomes that is copied, with its mode. Raises Failure where it can't be read."""
+    return Item(path, program.read(source), is_program=os.access(source, os.X_OK))
 
 
-def copy_tree(source: str, to: str, endings: tuple[str, ...]) -> None:
-    """Copies the files of a folder, and of those in it, whose names end so."""
-    for at, _, names in os.walk(source):
-        kept = [name for name in sorted(names) if name.endswith(endings)]
+def tree(source: str, to: str, endings: tuple[str, ...]) -> Iterator[Item]:
+    """What the files of a folder, and of those in it, become whose names end so."""
+    for at, _, names in sorted(os.walk(source)):
         folder = os.path.normpath(os.path.join(to, os.path.relpath(at, source)))
-        if kept:
-            os.makedirs(folder, exist_ok=True)
-        for name in kept:
-            copy(os.path.join(at, name), os.path.join(folder, name))
-
-
-def link(target: str, path: str) -> None:
-    """Makes a link in its place."""
-    if os.path.lexists(path + ".new"):
-        os.remove(path + ".new")
-    os.symlink(target, path + ".new")
-    os.replace(path + ".new", path)
+        for name in sorted(names):
+            if name.endswith(endings):
+                yield copied(os.path.join(at, name), os.path.join(folder, name))
 
 
 def built() -> str:
@@ -103,57 +96,60 @@ def built() -> str:
     return found.stdout.removesuffix("\n")
 
 
-def folders(prefix: str) -> dict[str, str]:
-    """The folders that are made. Raises Failure where one can't be made."""
-    names = {"bin": "bin", "lib": "lib/fshell", "scripts": "lib/fshell/bin", "tools": "lib/fshell/python/fshell_tools", "docs": "lib/fshell/docs", "man": "share/man/man1",
-             "bash": "share/bash-completion/completions", "zsh": "share/zsh/site-functions", "fish": "share/fish/vendor_completions.d",
-             "doc": "share/doc/fshell"}  # fmt: skip
-    found = {name: os.path.join(prefix, path) for name, path in names.items()}
-    for path in found.values():
-        try:
-            if os.path.islink(path):  # (as an older installation had the documents)
-                os.remove(path)
-            os.makedirs(path, exist_ok=True)
-        except OSError as fault:
-            raise Failure(f"{path}: {fault.strerror}") from None
-    return found
-
-
-def install(prefix: str) -> int:
-    """Installs all, and gives the number of manual pages."""
-    found = built()
+def items() -> Iterator[Item]:
+    """All that is put below a prefix, the program first. Raises Failure where it can't be made."""
     commands = text_of("docs", "COMMANDS.md")
-    pages = manual_pages.command_pages(commands) | manual_pages.tool_pages(text_of("docs", "TOOLS.md"))
-    at = folders(prefix)
-    copy(found, os.path.join(at["lib"], "program"))
-    put(PROGRAM, os.path.join(at["scripts"], "program"), True)
+    yield Item("lib/fshell/program", program.read(built()), is_program=True)
+    yield Item("lib/fshell/bin/program", PROGRAM.encode(), is_program=True)
     for name in ANSWERED_FROM:
-        made = os.path.join(at["lib"], name)
-        os.makedirs(os.path.dirname(made), exist_ok=True)
-        copy(os.path.join(ROOT, name), made)
-    copy(os.path.join(ROOT, "bin", "fshell"), os.path.join(at["scripts"], "fshell"))
-    link("../lib/fshell/bin/fshell", os.path.join(at["bin"], "fshell"))
+        yield copied(os.path.join(ROOT, name), f"lib/fshell/{name}")
+    yield copied(os.path.join(ROOT, "bin", "fshell"), "lib/fshell/bin/fshell")
+    yield Item("bin/fshell", target="../lib/fshell/bin/fshell")
     for name in ("__main__.py", "pyproject.toml"):
-        copy(os.path.join(program.PYTHON, name), os.path.join(at["lib"], "python", name))
-    copy_tree(program.PACKAGE, at["tools"], (".py", ".html", ".css", ".c", ".h"))
-    copy_tree(os.path.join(ROOT, "docs"), at["docs"], (".md",))
+        yield copied(os.path.join(program.PYTHON, name), f"lib/fshell/python/{name}")
+    yield from tree(program.PACKAGE, "lib/fshell/python/fshell_tools", (".py", ".html", ".css", ".c", ".h"))
+    documents = list(tree(os.path.join(ROOT, "docs"), "lib/fshell/docs", (".md",)))
+    yield from documents
     # (what is under share may be left out of a machine, and the program's help is made of the documents)
-    for name in sorted(os.listdir(at["docs"])):
-        link(f"../../../lib/fshell/docs/{name}", os.path.join(at["doc"], name))
-    for name, page in pages.items():
-        put(page, os.path.join(at["man"], f"{name}.1"))
-    for shell, name in (("bash", "fshell"), ("zsh", "_fshell"), ("fish", "fshell.fish")):
-        put(completion.SHELLS[shell](commands), os.path.join(at[shell], name))
-    return len(pages)
+    for name in sorted({one.path.split("/")[3] for one in documents}):
+        yield Item(f"share/doc/fshell/{name}", target=f"../../../lib/fshell/docs/{name}")
+    for name, page in manual(commands).items():
+        yield Item(f"share/man/man1/{name}.1", page.encode())
+    for shell, path in COMPLETIONS.items():
+        yield Item(path, completion.SHELLS[shell](commands).encode())
+
+
+def manual(commands: str) -> dict[str, str]:
+    """The manual pages by their names; `commands` is the text of docs/COMMANDS.md."""
+    return manual_pages.command_pages(commands) | manual_pages.tool_pages(text_of("docs", "TOOLS.md"))
+
+
+def install(prefix: str, force: bool = False, is_listed: bool = True) -> int:
+    """Installs all, and gives the number of manual pages. Raises Failure where something of others stands in the place of one."""
+    found = list(items())
+    placing.place(prefix, found, force, is_listed)
+    return sum(item.path.startswith("share/man/") for item in found)
 
 
 def parser_of_words() -> argument_parsers.Parser:
     """What reads the words of the command."""
-    done, missing = "all is put there, or is there", "something is missing that tools need (--check)"
+    done = "all is put there, is taken back, or is there"
+    missing = "something is missing that tools need (--check), or stays (--uninstall)"
     parser = argument_parsers.parser("install", __doc__, done, missing)
     parser.add_argument("prefix", nargs="?", metavar="PREFIX", help="such as /usr/local or ~/.local")
+    parser.add_argument("--force", action="store_true", help="replaces files there that it didn't put there")
+    parser.add_argument("--uninstall", action="store_true", help="takes back what it put there; what was changed since stays")
     parser.add_argument("--check", action="store_true", help="says which of the things that tools need are there")
     return parser
+
+
+def taken_back(prefix: str) -> int:
+    """Takes back what was installed; the status: 1 where files stay that were changed since, which are told."""
+    left = placing.uninstall(prefix)
+    for path in left:
+        print(f"it stays, since it was changed: {path}")
+    print(f"{prefix}: what was put there is taken back")
+    return program.OPEN if left else program.DONE
 
 
 def main() -> int:
@@ -164,6 +160,8 @@ def main() -> int:
         return check()
     if not given.prefix:
         parser.error("PREFIX or --check")
-    count = install(given.prefix)
+    if given.uninstall:
+        return taken_back(given.prefix)
+    count = install(given.prefix, given.force)
     print(f"{given.prefix}: the program, {len(cli.TOOLS)} tools, {count} manual pages, and completion for bash, zsh and fish")
     return program.DONE

@@ -2,7 +2,6 @@
 
 import json
 import os
-import time
 from dataclasses import asdict
 from typing import Any
 
@@ -152,7 +151,7 @@ def write(results: Results, folder: str | None) -> list[str]:
     files = coverage.read(results)
     texts = {
         "coverage.info": coverage.lcov(files, folder_of_module),
-        "cobertura.xml": coverage.cobertura(files, folder_of_module, int(time.time())),
+        "cobertura.xml": coverage.cobertura(files, folder_of_module, program.seconds_of_report()),
         "junit.xml": export.junit(results, gate.why(results), lost),
         "module.sarif": export.sarif(findings, folder_of_module),
         "warnings.txt": "".join(one.gcc_line + "\n" for one in findings),

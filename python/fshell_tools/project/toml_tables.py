@@ -36,6 +36,8 @@ class File:
             raise Failure(f"{path}: it is no TOML: {fault}") from None
         except RecursionError:
             raise Failure(f"{path}: it is nested too deep") from None
+        except ValueError:  # (which Python raises for a number of more than 4,300 digits)
+            raise Failure(f"{path}: a number in it has too many digits") from None
         self.places = Places(self.text)
         self.faults: dict[str, int] = {}
 
@@ -87,6 +89,9 @@ class Table:
         if not isinstance(value, kinds) or (isinstance(value, bool) and bool not in kinds):
             self.fault(key, f"{key} of {self.name} is no {wanted}")
             return None
+        if isinstance(value, str) and "\0" in value:
+            self.fault(key, f"{key} of {self.name} has the character NUL")
+            return None
         return value
 
     def text(self, key: str, need: bool = False) -> str | None:
@@ -106,7 +111,9 @@ class Table:
         found = self.take(key, (list,), "list of texts", need)
         kept = []
         for number, one in enumerate(found or ()):
-            if isinstance(one, str):
+            if isinstance(one, str) and "\0" in one:
+                self.file.fault((*self.path, key, number), f"an element of {key} of {self.name} has the character NUL")
+            elif isinstance(one, str):
                 kept.append(one)
             else:
                 self.file.fault((*self.path, key, number), f"an element of {key} of {self.name} is no text")

@@ -45,17 +45,26 @@ def as_json(results: Results) -> str:
     return json.dumps({"requirements": rows(results)}, indent=1, ensure_ascii=False) + "\n"
 
 
-def _cell(text: str) -> str:
-    """A cell that no spreadsheet takes for a formula."""
-    return "'" + text if text[:1] in ("=", "+", "-", "@") else text
+# what a spreadsheet takes a formula to begin with, by OWASP's list (CSV injection), which has the wide forms too
+_FORMULA = ("=", "+", "-", "@", "\t", "\r", "\n", "\uff1d", "\uff0b", "\uff0d", "\uff20")
+
+
+def cell(text: str) -> str:
+    """A cell that no spreadsheet takes for a formula: what would be one has ' before it."""
+    return "'" + text if text.startswith(_FORMULA) else text
+
+
+def line_of(cells: list[str]) -> str:
+    """A line of CSV (RFC 4180), with each cell in quotes, so that none begins another."""
+    file = io.StringIO()
+    csv.writer(file, quoting=csv.QUOTE_ALL).writerow([cell(text) for text in cells])
+    return file.getvalue()
 
 
 def as_csv(results: Results) -> str:
     """The matrix as CSV (RFC 4180): a line for each goal of a requirement, or one where it has none. A cell that a
-    spreadsheet would take for a formula has ' before it."""
-    file = io.StringIO()
-    writer = csv.writer(file)
-    writer.writerow(["requirement", "text", "state", "entry", "goal", "verdict", "tests", "certificate"])
+    spreadsheet would take for a formula has ' before it, and all stand in quotes."""
+    lines = [line_of(["requirement", "text", "state", "entry", "goal", "verdict", "tests", "certificate"])]
     for row in rows(results):
         head = [row["id"], row["text"], row["state"], row["entry"]]
         tests = " ".join(row["tests"])
@@ -66,5 +75,5 @@ def as_csv(results: Results) -> str:
                 goal.get("test", tests),
                 goal.get("certificate", ""),
             ]
-            writer.writerow([_cell(text) for text in head + behind])
-    return file.getvalue()
+            lines.append(line_of(head + behind))
+    return "".join(lines)

@@ -13,6 +13,7 @@ from tests.tools import (
     test_first_hour,
     test_harness,
     test_holds,
+    test_hostile_texts,
     test_inputs,
     test_install,
     test_lcov,
@@ -40,5 +41,5 @@ test_adapt.CASES += test_adapt_compare.CASES
 test_adapt.TRIED += [*test_adapt_stages.TRIED, *test_adapt_compare.TRIED, *test_adapt_sizes.TRIED]
 
 TOOLS = {module.__name__.split(".")[-1].removeprefix("test_"): module
-         for module in (test_campaign, test_holds, test_snapshots, test_project, test_verdicts, test_recipes, test_adapt, test_mcdc, test_page, test_source_maps, test_progress, test_order, test_rte, test_driver, test_install, test_lcov, test_first_hour, test_explain,
+         for module in (test_campaign, test_holds, test_hostile_texts, test_snapshots, test_project, test_verdicts, test_recipes, test_adapt, test_mcdc, test_page, test_source_maps, test_progress, test_order, test_rte, test_driver, test_install, test_lcov, test_first_hour, test_explain,
                        test_inputs, test_harness, test_schemas, test_drat, test_where, test_trusted_base, test_pages, test_streams, test_contract_sizes, test_style)}  # fmt: skip

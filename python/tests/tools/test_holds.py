@@ -6,7 +6,7 @@ import shutil
 import signal
 import subprocess
 import time
-from collections.abc import Iterator
+from collections.abc import Callable, Iterator
 
 from tests import environment
 from tests.tools import example, put, run, test_campaign
@@ -22,13 +22,19 @@ NAMES = (
     "{.}{//}",
     "a b'c\"d$(touch PWNED)`",
 )
-# a product of 60 bits, which no search of the budget finds
 HARD = """int f(unsigned long a, unsigned long b) {
   if (a > 1000000ul && b > 1000000ul && a < 4000000000ul && b < 4000000000ul && a * b == 1000000016000000063ul) {
     return 1;
   }
   return 0;
 }
+"""
+# a program that answers as the proved one, but whose searches never end by themselves, and name the folder of the case
+ENDLESS = """#!/bin/sh
+case $1 in
+generate | prove | least) exec python3 -S -c 'import signal; signal.pause()' "{folder}" "$@" ;;
+esac
+exec "{program}" "$@"
 """
 SSH = '#!/bin/sh\nshift\n[ "$1" != -- ] || shift\nexec sh -c "$*"\n'
 
@@ -96,36 +102,55 @@ def left_in(folder: str) -> list[int]:
     return [number for number in found if number != os.getpid()]
 
 
+def searches(folder: str) -> list[int]:
+    """The searches of ENDLESS that run for a folder."""
+    found = []
+    for number in left_in(folder):
+        with contextlib.suppress(OSError), open(f"/proc/{number}/cmdline", "rb") as file:
+            if file.read().startswith(b"python3\0-S\0-c\0import signal; signal.pause()\0"):
+                found.append(number)
+    return found
+
+
+def waited(is_done: Callable[[], bool]) -> bool:
+    """Whether something becomes so within two minutes, which a busy machine may need."""
+    deadline = time.monotonic() + 120
+    while not is_done() and time.monotonic() < deadline:
+        time.sleep(0.05)
+    return is_done()
+
+
 def ends_with(started: "subprocess.Popen[bytes]", folder: str, number: int) -> bool:
-    """Whether all that a tool started in a folder ends with it, once a signal has ended the tool itself."""
-    deadline = time.monotonic() + 60
-    while len(left_in(folder)) < 3 and time.monotonic() < deadline:
-        time.sleep(0.05)
-    time.sleep(0.3)
-    had = len(left_in(folder))
+    """Whether all that a tool started in a folder ends with it, once a signal has ended the tool itself while it searches."""
+    is_searching = waited(lambda: bool(searches(folder)))
     os.kill(started.pid, number)
-    started.wait(60)
-    deadline = time.monotonic() + 5
-    while left_in(folder) and time.monotonic() < deadline:
-        time.sleep(0.05)
-    left = left_in(folder)
-    for one in left:
+    started.wait(120)
+    is_over = waited(lambda: not left_in(folder))
+    for one in left_in(folder):
         with contextlib.suppress(OSError):
             os.kill(one, signal.SIGKILL)
-    return had >= 3 and not left
+    return is_searching and is_over
+
+
+def heeds_signals() -> None:
+    """Has a process heed SIGINT, which a shell that runs the cases in the background has its processes ignore."""
+    signal.signal(signal.SIGINT, signal.SIG_DFL)
 
 
 def killed_runs_leave_no_jobs(folder: str) -> Iterator[bool]:
-    """The searches of a campaign, here and on other machines, of mcdc and of rte end with the tool, whatever ends it."""
-    put(folder, {"hard.c": HARD, "ssh": SSH, "logins": f"2/{folder}/ssh one\n"})
-    os.chmod(os.path.join(folder, "ssh"), 0o755)
-    query, hard = "cover @CONDITIONEDGE", ["--budget", "20000000"]
-    campaign = ["campaign", "-o", "new", "--jobs", "2", "f", query, "hard.c", *hard]
-    for words in (campaign, [*campaign, "--sshloginfile", "logins"], ["mcdc", "f", "hard.c", *hard]):
+    """The searches of a campaign, here and on other machines, and of mcdc end with the tool, whatever ends it; by themselves they
+    never would."""
+    endless = ENDLESS.format(folder=folder, program=environment.program())
+    put(folder, {"hard.c": HARD, "ssh": SSH, "logins": f"2/{folder}/ssh one\n", "endless": endless})
+    for name in ("ssh", "endless"):
+        os.chmod(os.path.join(folder, name), 0o755)
+    own = {**os.environ, "FSHELL": os.path.join(folder, "endless")}
+    campaign = ["campaign", "-o", "new", "--jobs", "2", "f", "cover @CONDITIONEDGE", "hard.c"]
+    for words in (campaign, [*campaign, "--sshloginfile", "logins"], ["mcdc", "f", "hard.c"]):
         for number in (signal.SIGKILL, signal.SIGTERM, signal.SIGINT):
             launcher = os.path.join(environment.ROOT, "bin", "fshell")
-            started = subprocess.Popen([launcher, *words], cwd=folder, stdin=subprocess.DEVNULL,
-                                       stdout=subprocess.DEVNULL, stderr=subprocess.DEVNULL)  # fmt: skip
+            started = subprocess.Popen([launcher, *words], cwd=folder, env=own, stdin=subprocess.DEVNULL,
+                                       stdout=subprocess.DEVNULL, stderr=subprocess.DEVNULL, preexec_fn=heeds_signals)  # fmt: skip
             yield ends_with(started, folder, number)
             yield started.returncode == (-number if number == signal.SIGKILL else 2)
             shutil.rmtree(os.path.join(folder, "new"), ignore_errors=True)

@@ -1,6 +1,8 @@
 """The cases of fshell install and fshell package: what they put under a folder works there, its manual pages are shown without a warning,
 and completion and documents know each option that a tool has."""
 
+import hashlib
+import json
 import os
 import re
 import resource
@@ -97,6 +99,78 @@ def nothing_is_left_half_copied(folder: str) -> Iterator[bool]:
     ended = run(folder, ["install", "to"], preexec_fn=lambda: resource.setrlimit(resource.RLIMIT_FSIZE, (1000, 1000)))
     yield ended.returncode == 2 and ended.stderr == "install: to/lib/fshell/program: File too large\n"
     yield [name for _, _, names in os.walk(os.path.join(folder, "to")) for name in names] == []
+
+
+def tree_of(folder: str) -> dict[str, str]:
+    """What stands in a folder: the bytes of each file as hexadecimal digits, where each link leads, and the folders."""
+    found = {}
+    for at, folders, names in os.walk(folder):
+        for name in [*folders, *names]:
+            path = os.path.join(at, name)
+            if os.path.islink(path):
+                found[os.path.relpath(path, folder)] = "-> " + os.readlink(path)
+            elif os.path.isdir(path):
+                found[os.path.relpath(path, folder)] = "folder"
+            else:
+                with open(path, "rb") as file:
+                    found[os.path.relpath(path, folder)] = file.read().hex()
+    return found
+
+
+def what_others_put_there_stays(folder: str) -> Iterator[bool]:
+    """A file, a link and a folder in the place of one of its files, and a file of its own that was changed: nothing is written, but
+    with --force."""
+    for number, (name, target) in enumerate((("bin/fshell", ""), ("share/man/man1/fshell.1", "victim"), ("lib/fshell/program", ""))):
+        prefix = os.path.join(folder, str(number))
+        put(folder, {"victim": "precious\n"})
+        os.makedirs(os.path.dirname(os.path.join(prefix, name)))
+        if target:
+            os.symlink(os.path.join(folder, target), os.path.join(prefix, name))
+        else:
+            put(prefix, {name: "mine\n"})
+        before = tree_of(prefix)
+        ended = run(folder, ["install", prefix])
+        line = f"install: {prefix}/{name}: it wasn't put there by fshell install, or was changed since; --force replaces it\n"
+        yield (ended.returncode, ended.stdout, ended.stderr) == (2, "", line) and tree_of(prefix) == before
+        yield run(folder, ["install", prefix, "--force"]).returncode == 0
+        put(prefix, {"lib/fshell/docs/TOOLS.md": "changed\n"})
+        yield run(folder, ["install", prefix]).returncode == 2
+        with open(os.path.join(folder, "victim"), encoding="utf-8") as file:
+            yield file.read() == "precious\n"
+
+
+def what_was_put_there_is_taken_back(folder: str) -> Iterator[bool]:
+    """The prefix is afterwards as it was before, but for what was changed since; without a list nothing is taken back."""
+    put(folder, {"to/bin/other": "other\n", "to/share/man/man1/other.1": "other\n"})
+    before = tree_of(os.path.join(folder, "to"))
+    refused = run(folder, ["install", "--uninstall", "to"])
+    yield refused.returncode == 2 and refused.stderr.endswith("so nothing is known of what was installed\n")
+    for changed in (False, True):
+        yield run(folder, ["install", "to"]).returncode == 0
+        # (which has Python compile its modules there)
+        own = {name: value for name, value in os.environ.items() if name not in ("FSHELL", "PYTHONDONTWRITEBYTECODE")}
+        path = os.path.join(folder, "to", "bin", "fshell")
+        yield subprocess.run([path, "--help"], env=own, capture_output=True).returncode == 0
+        if changed:
+            put(folder, {"to/lib/fshell/README.md": "mine\n"})
+        ended = run(folder, ["install", "--uninstall", "to"])
+        told = "it stays, since it was changed: to/lib/fshell/README.md\n" if changed else ""
+        yield (ended.returncode, ended.stdout) == (int(changed), f"{told}to: what was put there is taken back\n")
+        mine = {"lib": "folder", "lib/fshell": "folder", "lib/fshell/README.md": b"mine\n".hex()} if changed else {}
+        yield tree_of(os.path.join(folder, "to")) == before | mine
+
+
+def a_list_that_leads_elsewhere_is_refused(folder: str) -> Iterator[bool]:
+    """Of what was installed; nothing outside of the prefix is removed."""
+    put(folder, {"victim": "precious\n"})
+    one = hashlib.sha256(b"precious\n").hexdigest()
+    for name in ("../victim", os.path.join(folder, "victim"), "a/../../victim", "victim\0"):
+        text = json.dumps({"format": "fshell installed 1", "files": {name: one}, "folders": []})
+        for listed in (text, text[:-1], "[]", '{"format": "fshell installed 1", "files": {"a": 1}, "folders": [7]}'):
+            put(folder, {"to/lib/fshell/installed.json": listed})
+            ended = run(folder, ["install", "--uninstall", "to"])
+            line = "install: to/lib/fshell/installed.json: it is no list of what was installed\n"
+            yield (ended.returncode, ended.stderr) == (2, line) and os.path.exists(os.path.join(folder, "victim"))
 
 
 def completed(folder: str, words: str) -> list[str]:
@@ -216,6 +290,19 @@ def a_package_is_one_file_that_works(folder: str) -> Iterator[bool]:
     yield [name for at, _, names in os.walk(os.path.join(root, "usr")) for name in names] == []
 
 
+def a_package_is_written_through_no_link(folder: str) -> Iterator[bool]:
+    """That stands where the package is to be, or where a name beside it could be foreseen."""
+    put(folder, {"victim": "precious\n"})
+    name = "fshell_1.2_amd64.deb"
+    for end in ("", ".new", ".tmp"):
+        os.symlink("victim", os.path.join(folder, name + end))
+    ended, path = packed(folder, "--version", "1.2")
+    yield ended.returncode == 0 and os.path.isfile(path) and not os.path.islink(path)
+    with open(os.path.join(folder, "victim"), encoding="utf-8") as file:
+        yield file.read() == "precious\n"
+    yield sorted(os.listdir(folder)) == [name, name + ".new", name + ".tmp", "victim"]
+
+
 def a_package_has_no_errors(folder: str) -> Iterator[bool]:
     """By Debian's own checker; what is overridden is told with its reason in the documents."""
     _, path = packed(folder, "--version", "1.2")
@@ -285,6 +372,8 @@ MODULE = (
     "python3-jinja2",
 )  # (a package runs by Debian's Python)
 TRIED = [((), a_wheel_has_the_program), ((), installed_tools_work), (("pycparser", "gcc", "graph"), installed_adapt_has_its_models), ((), nothing_is_left_half_copied),
+         ((), what_others_put_there_stays), ((), what_was_put_there_is_taken_back), ((), a_list_that_leads_elsewhere_is_refused),
+         (("dpkg-deb",), a_package_is_written_through_no_link),
          (("bash",), completion_knows_words), (("bash",), completion_knows_each_option), ((), documents_and_pages_name_each_option),
          ((), needs_are_told), (("man",), manual_pages_are_shown), (MODULE, a_package_is_one_file_that_works),
          (("dpkg-deb", "lintian"), a_package_has_no_errors), (("dpkg-deb",), a_package_is_refused)]  # fmt: skip
