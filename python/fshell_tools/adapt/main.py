@@ -117,7 +117,9 @@ def put_map(folder: str, texts: dict[str, str], writer: Writer) -> None:
     units = list({unit.path: unit for unit, _ in writer.names.items}.values())
     mapped = {path: text for path, text in texts.items() if path in writer.files}
     try:
-        program.write_whole(os.path.join(folder, source_map.NAME), source_map_entries.text_of(writer, units, mapped, folder))
+        program.write_whole(
+            os.path.join(folder, source_map.NAME), source_map_entries.text_of(writer, units, mapped, folder)
+        )
     except program.Failure as failure:
         raise Stop(str(failure)) from None
 

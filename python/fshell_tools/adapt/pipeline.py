@@ -32,6 +32,7 @@ from fshell_tools.adapt.expand.switches import Cases
 from fshell_tools.adapt.judge.program_check import check
 from fshell_tools.adapt.layout.choosers import Choosers
 from fshell_tools.adapt.layout.identifiers import Spelling
+from fshell_tools.adapt.layout.image_check import check_images
 from fshell_tools.adapt.layout.lifetimes import Lifetimes
 from fshell_tools.adapt.layout.regions import Columns
 from fshell_tools.adapt.names.scopes import Names
@@ -81,6 +82,7 @@ def written(given: Words, refusals: Refusals, apart: set[Learned]) -> Optional[A
     names = named(units, library, given, refusals, taken)
     Bindings(Places(names), apart).bind()
     columns = Columns(names, apart)
+    check_images(columns, refusals)
     choosers, places, lifetimes = Choosers(names, columns), Places(names, columns), Lifetimes(names, columns)
     inputs = set(given.inputs) | OUTPUT
     effected = Effected(places, columns, choosers, inputs)

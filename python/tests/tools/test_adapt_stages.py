@@ -12,6 +12,7 @@ import types
 import typing
 from collections.abc import Iterable, Iterator
 from typing import Any
+from unittest import mock
 
 from tests import environment
 
@@ -240,6 +241,37 @@ def objects_lie_behind_each_other(folder: str) -> Iterator[bool]:
     yield (columns.counts[region], region.parts()) == (7, ["@p", "@e"])
 
 
+IMAGES = """struct base { int kind; };
+struct derived { struct base base; int value; };
+static int handle(struct base *p) {
+  struct derived *d = (struct derived *) p;
+  return d->value;
+}
+int f(int a) {
+  struct derived x = {{1}, a};
+  return handle(&x.base);
+}
+"""
+
+
+def each_object_has_one_image(folder: str) -> Iterator[bool]:
+    """A pointer to a struct that meets a member which lies apart is refused with both places; here the layout is one that nothing made
+    whole. The layout as it is has nothing to refuse."""
+    from fshell_tools.adapt.layout.image_check import check_images
+    from fshell_tools.adapt.layout.regions import Columns
+    from fshell_tools.adapt.points_to import byte_objects
+
+    names = bound(IMAGES)
+    check_images(Columns(names, set()), names.refusals)
+    yield not names.refusals.lines()
+    names = bound(IMAGES)
+    with mock.patch.object(byte_objects, "made_whole", lambda points: 0):
+        columns = Columns(names, set())
+    check_images(columns, names.refusals)
+    due = "a pointer to struct derived meets the member base of struct derived (a.c:8), which lies apart from the rest"
+    yield any(line.startswith(f"a.c:4: {due}; ") for line in names.refusals.lines())
+
+
 def effects_are_told(folder: str) -> Iterator[bool]:
     """What a call of f reads and writes, through g."""
     from fshell_tools.adapt.bind.lvalues import Places
@@ -313,5 +345,5 @@ def is_clause(text: str) -> bool:
 
 
 STAGES = (each_rule_names_its_clause, no_stage_knows_a_later_one, nothing_is_untyped, the_tree_is_our_own, the_tree_is_as_its_types_say, gnu_forms_are_printed, jumps_become_breaks, names_have_their_scopes, parameters_are_bound, pointers_meet_their_objects,
-          objects_lie_behind_each_other, effects_are_told, a_function_is_written, what_the_program_refuses_is_told)  # fmt: skip
+          objects_lie_behind_each_other, each_object_has_one_image, effects_are_told, a_function_is_written, what_the_program_refuses_is_told)  # fmt: skip
 TRIED = [(NEEDS, one) for one in STAGES]

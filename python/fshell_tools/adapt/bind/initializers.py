@@ -124,7 +124,7 @@ class Filled:
                 at += numbers.pop(0) * (c_types.size(of) or 0)
             else:
                 assert isinstance(of, Struct)
-                at += 0 if of.union else c_types.offsets(of)[names[0]]
+                at += 0 if of.union else c_types.bits_of(of)[names[0]] // 8
                 of = of.type_of(names.pop(0))
         return at
 

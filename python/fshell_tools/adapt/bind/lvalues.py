@@ -15,6 +15,7 @@ from fshell_tools.adapt.names.scopes import Names
 Indexes = tuple[tuple[tree.Expression, int], ...]  # each with the array's length
 Owner = Union[Variable, tuple[Region, str]]  # an object, or the member of all elements of another region
 MOST_CALLS = 64  # of one function that run at once: more frames than that no run of the program has
+FIELD = "@bit"  # of a bit-field of what stands as its bytes, before the number of its first bit in its first byte
 USE = "name the object itself, or hand its address over as a parameter that is only dereferenced"
 
 
@@ -99,7 +100,9 @@ class Places:
         whole = base.type
         of = whole.type_of(name)
         if self.is_raw(base):
-            return replace(base, offset=base.offset + c_types.offsets(whole)[name], type=of)
+            bit = c_types.bits_of(whole)[name]
+            field = isinstance(of, Int) and of.width > 0
+            return replace(base, offset=base.offset + bit // 8, type=of, path=(f"{FIELD}{bit % 8}",) if field else ())
         if whole.fault:
             raise Refused(node.coord if node else None, f"member {name}: {whole.fault[1]}", whole.fault[2])
         if whole.is_parts():

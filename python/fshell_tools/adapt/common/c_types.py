@@ -13,6 +13,9 @@ if TYPE_CHECKING:
 MOST_INDEX = 32767  # no index of a column is greater, so no product of one with a stride wraps
 NIL = -MOST_INDEX - 1  # a null pointer: below each index, also with the largest index added
 INDEX, END, BEGIN = "@p", "@e", "@b"  # what a pointer is written as; they stand in paths behind the members
+# a pointer in an object that stands as its bytes: in which of its 8 bytes each part begins, in how many it is, and what is added
+# to it there, so that null has 0 in all
+PACKED = {INDEX: (0, 3, -NIL), END: (3, 3, 0), BEGIN: (6, 2, 0)}
 Fault = tuple[Optional[Coord], str, str]  # where something can't be written, why, and what to do
 
 
@@ -98,6 +101,10 @@ class Region:
     targets: list["Function"] = field(default_factory=list)  # the functions to which a pointer may point
     single: bool = False
     column: Optional["Variable"] = None
+    views: list["Type"] = field(default_factory=list)  # what the pointers point to that lead to it, without arrays
+    reach: float = 0  # how many bytes a call takes behind a pointer to it; infinite where that isn't known
+    why: Optional[Fault] = None  # where its objects became bytes, and why
+    numbered: Optional[Coord] = None  # where a pointer to it becomes an integer
 
     def root(self) -> "Region":
         """What the region has become a part of."""
@@ -146,8 +153,12 @@ class Pointer:
     region: Region = field(default_factory=Region)
 
     def __post_init__(self) -> None:
-        if self.region.elem is None and self.to != VOID:
-            self.region.elem = element(self.to)
+        if self.to != VOID:
+            views, of = self.region.root().views, element(self.to)
+            if of not in views:
+                views.append(of)
+            if self.region.elem is None:
+                self.region.elem = element(self.to)
 
 
 @dataclass(eq=False)
@@ -267,19 +278,18 @@ def is_flexible(of: Type) -> bool:
     return isinstance(of, Array) and of.length is None
 
 
-def has_bytes(of: Type, pointers: bool = False) -> bool:
-    """Whether an object of the type may stand as its bytes: it has a known size, and no pointers or bit-fields. With `pointers` it
-    may have these."""
+def has_bytes(of: Type) -> bool:
+    """Whether an object of the type may stand as its bytes: it has a known size."""
     if isinstance(of, Pointer):
-        return pointers
+        return True
     if isinstance(of, Array):
-        return of.length is not None and has_bytes(of.of, pointers)
+        return of.length is not None and has_bytes(of.of)
     if isinstance(of, Struct):
-        if of.members is None or of.fault or any(width is not None for _, _, width in of.declared):
+        if of.members is None or of.fault:
             return False
         held = of.members[:-1] if of.members and is_flexible(of.members[-1][1]) else of.members
-        return all(has_bytes(member, pointers) for _, member in held)
-    return isinstance(of, Int) and not of.width or (isinstance(of, Other) and of != VOID and of.bytes is not None)
+        return all(has_bytes(member) for _, member in held)
+    return isinstance(of, Int) or (isinstance(of, Other) and of != VOID and of.bytes is not None)
 
 
 def is_mixed(of: Type) -> bool:
@@ -321,13 +331,19 @@ def size(of: Type) -> Optional[int]:
 
 
 def offsets(of: Struct) -> dict[str, int]:
-    """Where the members of a struct lie, as gcc lays it out on x86-64; none where that isn't known."""
+    """Where the members of a struct lie, but for bit-fields, as gcc lays it out on x86-64; none where that isn't known."""
+    fields = {name for name, _, width in of.declared if width is not None}
+    return {name: at // 8 for name, at in bits_of(of).items() if name not in fields}
+
+
+def bits_of(of: Struct) -> dict[str, int]:
+    """With which bit the members of a struct begin, as gcc lays it out on x86-64; none where that isn't known."""
     found, end = laid_out(of)
     return found if end is not None and not of.fault else {}
 
 
 def laid_out(of: Struct) -> tuple[dict[str, int], Optional[int]]:
-    """Where the members of a struct lie, without bit-fields, and how many bytes they take before what is filled up."""
+    """With which bit the members of a struct begin, and how many bytes they take before what is filled up."""
     at, found = 0, {}  # (in bits)
     if of.union:
         sizes = [size(member) if width is None else -(-width // 8) for _, member, width in of.declared]
@@ -341,8 +357,8 @@ def laid_out(of: Struct) -> tuple[dict[str, int], Optional[int]]:
             return {}, None
         if width is None or width == 0 or at % (one * 8) + width > one * 8:
             at = -(-at // step) * step
-        if width is None:
-            found[name] = at // 8
+        if name:
+            found[name] = at
         at += one * 8 if width is None else width
     return found, -(-at // 8)
 

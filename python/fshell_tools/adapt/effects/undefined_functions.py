@@ -33,7 +33,10 @@ def handed(places: Places, function: Function, number: int, argument: tree.Expre
     """The object that a call may change by an argument, where its integers are known and few."""
     if takes_const(function, number):
         return None
-    of = places.names.constants.type_of(argument)
+    try:
+        of = places.names.constants.type_of(argument)
+    except Refused:  # (a floating point constant, which is told where it is written)
+        return None
     whole = isinstance(argument, tree.UnaryOp) and argument.op == "&"
     if not isinstance(of, (Pointer, Array)) or not (
         whole or isinstance(of, Array) or isinstance(c_types.element(of.to), Struct)
@@ -50,7 +53,7 @@ def handed(places: Places, function: Function, number: int, argument: tree.Expre
     except Refused:
         return None
     count = sum(leaf.count for leaf in c_types.leaves(place.type) if not is_of_pointer(leaf))
-    plain = place.view is None and not c_types.is_mixed(place.type) and c_types.has_bytes(place.type, True)
+    plain = place.view is None and not c_types.is_mixed(place.type) and c_types.has_bytes(place.type)
     return place if plain and 0 < count <= MOST_CHANGED else None
 
 

@@ -111,7 +111,8 @@ class Columns:
             asked = bytes_asked(self.names.constants, pool.node, pool.called)
         except Refused:
             asked = None  # (told where it is written)
-        pool.count = self.names.pool[1] if asked is None else max(1, asked // size)
+        each = max((c_types.size(one) or 1 for one in region.views), default=1) if region.raw else 1
+        pool.count = self.names.pool[1] * each if asked is None else max(1, asked // size)
         largest = max((leaf.count for leaf in c_types.leaves(region.type)), default=1) * pool.count
         pool.slots = max(1, min(pool.slots, (MOST_INDEX + 1) // largest))
         owner.type = Array(region.type, pool.slots * pool.count)

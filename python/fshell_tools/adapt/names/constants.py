@@ -174,7 +174,7 @@ class Constants:
             if not isinstance(left, Int) and not isinstance(right, Int):
                 return c_types.LONG  # (6.5.6p9)
             if not isinstance(left, Int) or not isinstance(right, Int):
-                return left if not isinstance(left, Int) else right
+                return c_types.adjusted(left if not isinstance(left, Int) else right)  # (6.3.2.1p3)
             return c_types.promoted(left) if node.op in SHIFTS else c_types.common(left, right)
         if isinstance(node, tree.TernaryOp):
             left, right = self.type_of(node.iftrue), self.type_of(node.iffalse)
@@ -185,7 +185,7 @@ class Constants:
         if isinstance(node, tree.Assignment):
             return self.type_of(node.lvalue)
         if isinstance(node, tree.ExprList):
-            return self.type_of(node.exprs[-1])
+            return c_types.adjusted(self.type_of(node.exprs[-1]))
         if isinstance(node, tree.StatementExpr):
             return c_types.VOID if node.last is None else c_types.adjusted(self.type_of(node.last))
         if isinstance(node, (tree.Cast, tree.CompoundLiteral)):

@@ -1,5 +1,6 @@
 """What each name of the units stands for: scopes as C has them (6.2.1)."""
 
+import copy
 from collections import ChainMap
 from typing import Optional, Union
 
@@ -25,6 +26,7 @@ class Names:
 
     def __init__(self, refusals: Refusals, pool: tuple[int, int]) -> None:
         self.refusals = refusals
+        self.heads: dict[c_types.Signature, tree.FuncDecl] = {}  # the declarators of function types that have names
         self.linked: dict[Key, Union[Variable, Function]] = {}
         self.meaning: dict[tree.Node, Optional[Meaning]] = {}
         self.types: dict[tree.Node, Type] = {}
@@ -65,13 +67,26 @@ class Names:
     def typedef(self, node: tree.Typedef) -> None:
         """The name of a type; the library's own of known widths are kept as they are."""
         fixed = c_types.FIXED.get(node.name) if is_system(node.where.file) else None
-        self.scope[node.name] = fixed or self.declarators.usable(node.type)
+        self.scope[node.name] = made = fixed or self.declarators.usable(node.type)
+        head = node.type if isinstance(node.type, tree.FuncDecl) else self.head_named(node.type)
+        if isinstance(made, c_types.Signature) and head is not None:
+            self.heads[made] = head
+
+    def head_named(self, node: tree.TypeNode) -> Optional[tree.FuncDecl]:
+        """The declarator of the function type that a name stands for, if it does."""
+        word = node.type if isinstance(node, tree.TypeDecl) else None
+        found = self.scope.get(word.names[-1]) if isinstance(word, tree.IdentifierType) else None
+        return self.heads.get(found) if isinstance(found, c_types.Signature) else None
 
     def declaration(self, node: tree.Decl) -> None:
         """A declaration of a type alone, of a function, or of an object."""
         if isinstance(node.type, (tree.Struct, tree.Enum, tree.Union)) and node.name is None:
             self.declarators.type_of(node.type)
         elif isinstance(node.type, tree.FuncDecl):
+            self.meaning[node] = self.declared_function(node)
+        elif (head := self.head_named(node.type)) is not None:  # (6.7.6.3p1, 6.9.1p2)
+            node.type = copy.deepcopy(head)
+            tree.rename(node, node.name or "")
             self.meaning[node] = self.declared_function(node)
         else:
             self.meaning[node] = self.variable(node)

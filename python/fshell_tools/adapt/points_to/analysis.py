@@ -14,7 +14,6 @@ from fshell_tools.adapt.names import unions
 from fshell_tools.adapt.names.scopes import Names
 from fshell_tools.adapt.points_to.byte_objects import settle
 from fshell_tools.adapt.points_to.call_flow import visit
-from fshell_tools.adapt.points_to.first_members import FirstMember, related
 from fshell_tools.adapt.points_to.heap import GIVES, Pool, heap_call, known_call
 from fshell_tools.adapt.points_to.models import Model, model_of
 from fshell_tools.adapt.points_to.unification import Unification
@@ -26,7 +25,6 @@ class PointsTo(Unification):
     def __init__(self, names: Names, learned: set[Learned]) -> None:
         self.names, self.constants, self.learned = names, names.constants, learned
         self.pools: dict[tree.Node, Pool] = {}
-        self.firsts: dict[tree.Node, FirstMember] = {}
         self.parts: list[tuple[Region, Region, Optional[tree.Coord]]] = []
         self.modelled: list[tuple[tree.FuncCall, Model]] = []
         self.by_bytes: list[tuple[Region, Optional[tree.Coord]]] = []  # those in which a pointer to void moves
@@ -172,10 +170,11 @@ class PointsTo(Unification):
             return self.value(arguments(node)[0])
         if isinstance(node, tree.Cast):
             to = self.names.types.get(node.to_type, c_types.VOID)
-            first = related(self, node, to)
-            if first is None:
-                self.flow(node.expr, to)
-            return first or to
+            of = self.value(node.expr) if isinstance(to, c_types.Int) and not to.boolean else None
+            if isinstance(of, Pointer):
+                of.region.root().numbered = of.region.root().numbered or node.coord or tree.NOWHERE
+            self.flow(node.expr, to)
+            return to
         if isinstance(node, (tree.ID, tree.StructRef, tree.ArrayRef, tree.UnaryOp)):
             return self.decayed(node)
         return self.constants.type_of(node)

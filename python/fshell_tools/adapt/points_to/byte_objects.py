@@ -8,8 +8,8 @@ from fshell_tools.adapt.common import c_types, tree
 from fshell_tools.adapt.common.c_types import Int, Pointer, Region
 from fshell_tools.adapt.common.refusals import Refused
 from fshell_tools.adapt.points_to.call_flow import differ, handed_by_pointer
-from fshell_tools.adapt.points_to.first_members import join
 from fshell_tools.adapt.points_to.models import WHOLE, Model, element_count
+from fshell_tools.adapt.points_to.object_images import made_whole, shared, spanned
 
 if TYPE_CHECKING:
     from fshell_tools.adapt.points_to.analysis import PointsTo
@@ -19,13 +19,14 @@ def settle(points: "PointsTo") -> None:
     """Lets objects stand as their bytes where something needs them: parts of a union that are pointed to, unions whose members
     have no common form, and memory that is copied, set or compared by bytes."""
     before, done, joined = -1, set[tree.Node](), 0
+    for node, model in points.modelled:
+        spanned(points, node, model.name)
     while before != raws(points) + len(done) + joined:
         for variable in points.names.variables:
             if c_types.is_mixed(variable.type):
                 points.home(variable)
         before = raws(points) + len(done) + joined
         handed_by_pointer(points, done)
-        joined += join(points)
         for made, region, at in points.parts:
             if made.root().pointed and made.root() is not region.root():
                 made.root().fault = None
@@ -44,12 +45,13 @@ def settle(points: "PointsTo") -> None:
                 points.as_bytes(region, [of], at)
         for node, model in points.modelled:
             by_bytes(points, node, model)
+        joined += made_whole(points) + shared(points)
 
 
 def raws(points: "PointsTo") -> int:
-    """How many regions stand as bytes, or can't be written."""
-    regions = {one.root() for one in points.homes.values()} | {of.region.root() for of in pointers(points)}
-    return sum(1 for one in regions if one.raw or one.fault)
+    """How many objects and pointers' values have regions that stand as bytes, or can't be written; two of these may become one."""
+    found = [one.root() for one in points.homes.values()] + [of.region.root() for of in pointers(points)]
+    return sum(1 for one in found if one.raw or one.fault)
 
 
 def pointers(points: "PointsTo") -> list[Pointer]:

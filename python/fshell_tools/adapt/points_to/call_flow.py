@@ -143,6 +143,8 @@ def differ(one: Type, other: Type) -> bool:
     if isinstance(one, Struct) and isinstance(other, Struct) and one.tag == other.tag:
         names = [[name for name, _ in of.members or []] for of in (one, other)]
         return names[0] != names[1]  # (else one struct, of several sources)
+    if isinstance(one, Pointer) and isinstance(other, Pointer):
+        return False
     return one is not other and c_types.has_bytes(one) and c_types.has_bytes(other)
 
 

@@ -55,6 +55,8 @@ class Unification:
         a.objects += [variable for variable in b.objects if variable not in a.objects]
         a.pointed, a.moved, a.down = a.pointed or b.pointed, a.moved or b.moved, a.down or b.down
         a.freed = a.freed or b.freed
+        a.views += [of for of in b.views if of not in a.views]
+        a.reach, a.numbered, a.why = max(a.reach, b.reach), a.numbered or b.numbered, a.why or b.why
         a.targets += [function for function in b.targets if function not in a.targets]
         a.fault = a.fault or b.fault
         left, right = a.elem, b.elem
@@ -85,10 +87,12 @@ class Unification:
         """Lets the objects of a region stand as their bytes, where all may."""
         root = region.root()
         bad = [one for one in types if not c_types.has_bytes(one) and not self.is_open(one) and one != c_types.VOID]
+        cause = f"a pointer to {words(types[0])} and to {words(types[-1])}" if types else "pointers to several types"
         if bad:
             cause = f"a pointer to {words(bad[0])} and to {words(next((one for one in types if one is not bad[0]), bad[0]))}"
             root.fault = root.fault or (at, cause, ADVICE)
             return
+        root.why = root.why or (at, cause, ADVICE)
         for one in [*types, *(variable.type for variable in root.objects)]:
             whole_again(one)
         root.raw = root.pointed = root.moved = True

@@ -37,7 +37,8 @@ class Assignments(Component):
         array, or where C leaves an order open that matters."""
         place = self.writer.places.place(node.lvalue)
         if not isinstance(place.type, Int):
-            raise Refused(node.coord, "an assignment to an array", "assign its elements")
+            fault = c_types.fault_of(place.type) or ("an assignment to an array", "assign its elements")
+            raise Refused(node.coord, *fault)
         index = tree.ExprList([one for one, _ in place.indexes] + ([node.lvalue] if node.op != "=" else []))
         self.writer.order.unsequenced(node, [index, node.rvalue])
         self.not_twice(node, place, node.rvalue)

@@ -7,10 +7,10 @@ from functools import partial
 from typing import TYPE_CHECKING, Optional, Union
 
 from fshell_tools.adapt.bind.initializers import Filled
-from fshell_tools.adapt.bind.lvalues import At, Level
-from fshell_tools.adapt.bind.value_texts import PRIMARY, UNARY, Known, Value, number, plus, times
+from fshell_tools.adapt.bind.lvalues import FIELD, At, Level
+from fshell_tools.adapt.bind.value_texts import PRIMARY, UNARY, Known, Value, minus, number, plus, times
 from fshell_tools.adapt.common import c_types, tree
-from fshell_tools.adapt.common.c_types import BEGIN, END, MOST_INDEX, NIL, Int, Leaf
+from fshell_tools.adapt.common.c_types import BEGIN, END, INDEX, MOST_INDEX, NIL, Int, Leaf, Pointer
 from fshell_tools.adapt.common.objects import Place
 from fshell_tools.adapt.common.refusals import Refused
 from fshell_tools.adapt.names.value_ranges import SMALL, Range, within
@@ -20,7 +20,40 @@ from fshell_tools.adapt.write.large_arrays import Large
 if TYPE_CHECKING:
     from fshell_tools.adapt.write.writer import Writer
 
+STEMS = {INDEX: "pointer", END: "pointer_end", BEGIN: "pointer_begin"}
 WIDEST: Range = -(1 << 63), 1 << 64
+
+
+def part(column: str, name: str, begin: Union[int, str]) -> str:
+    """The text of a part of a pointer out of its bytes, which begin at a number, or at what a name says."""
+    first, count, more = c_types.PACKED[name]
+    texts = []
+    for at in range(count):
+        index = (
+            str(begin + first + at) if isinstance(begin, int) else f"{begin} + {first + at}" if first + at else begin
+        )
+        texts.append(f"(unsigned int) {column}[{index}]{f' << {8 * at}' if at else ''}")
+    return f"((int) ({' | '.join(texts)}){f' - {more}' if more else ''})"
+
+
+def masks(kind: Int, first: int) -> list[int]:
+    """The bits of a bit-field in each byte that it has a part of."""
+    bits = ((1 << kind.width) - 1) << first
+    return [bits >> 8 * at & 255 for at in range(-(-(first + kind.width) // 8))]
+
+
+def field(column: str, kind: Int, first: int, begin: Union[int, str]) -> str:
+    """The text of a bit-field out of its bytes, which begin at a number, or at what a name says."""
+    count, texts = len(masks(kind, first)), []
+    word = "unsigned long" if first + kind.width > 32 else "unsigned int"
+    for at in range(count):
+        index = str(begin + at) if isinstance(begin, int) else f"{begin} + {at}" if at else begin
+        texts.append(f"({word}) {column}[{index}]{f' << {8 * at}' if at else ''}")
+    bits = f"(({' | '.join(texts)}) >> {first})" if first else f"({' | '.join(texts)})"
+    mask, sign = (1 << kind.width) - 1, 1 << (kind.width - 1)
+    if not kind.below_zero:
+        return f"({kind.text}) ({bits} & {hex(mask)})"
+    return f"({kind.text}) ((int) (({bits} & {hex(mask)}) ^ {hex(sign)}) - {sign})"
 
 
 def whole(column: str, kind: Int, begin: Union[int, str]) -> str:
@@ -44,19 +77,64 @@ class Raw(Component):
         """The name of what has the integers of a place's kind: the column, or an array that there isn't."""
         kind, column = place.type, self.writer.spelling.leaf(place.variable, ())
         assert isinstance(kind, Int)
-        if kind.bits == 8:
+        if kind.bits == 8 and not place.path:
             return column
-        key = (column, kind.text)
+        own = place.path[-1] if place.path else ""
+        if own.startswith(FIELD):
+            return self.field(column, kind, int(own[len(FIELD) :]), bool(place.variable.const))
+        key = (column, own or kind.text)
         if key not in self.names:
-            stem = f"{column}_{'i' if kind.signed else 'u'}{kind.bits}"
-            name = self.writer.spelling.fresh(stem, True)
+            name = self.writer.spelling.fresh(f"{column}_{STEMS[own] if own else self.letters(kind)}", True)
             self.names[key] = name
-            reads, sets = self.writer.spelling.fresh(f"{name}_at", True), self.writer.spelling.fresh(
-                f"{name}_set", True
+            fresh, const = self.writer.spelling.fresh, bool(place.variable.const)
+            reads, sets = fresh(f"{name}_at", True), fresh(f"{name}_set", True)
+            at = partial(part, column, own) if own else partial(whole, column, kind)
+            self.writer.large.known[name] = Large(name, kind, 0, reads, sets, at)
+            self.texts[key] = (
+                self.part_functions(column, own, reads, sets, const)
+                if own
+                else self.functions(column, kind, reads, sets, const)
             )
-            self.writer.large.known[name] = Large(name, kind, 0, reads, sets, partial(whole, column, kind))
-            self.texts[key] = self.functions(column, kind, reads, sets, bool(place.variable.const))
         return self.names[key]
+
+    @staticmethod
+    def letters(kind: Int) -> str:
+        """What the name of a kind is within names: its sign and its bits."""
+        return f"{'i' if kind.signed else 'u'}{kind.bits}"
+
+    def field(self, column: str, kind: Int, first: int, const: bool) -> str:
+        """The name of what has the bit-fields of a kind that begin with a bit of their first byte."""
+        key = (column, f"{FIELD}{first} {kind.width} {kind.below_zero}")
+        if key not in self.names:
+            fresh = self.writer.spelling.fresh
+            name = fresh(f"{column}_{'i' if kind.below_zero else 'u'}{kind.width}_{first}", True)
+            self.names[key], reads, sets = name, fresh(f"{name}_at", True), fresh(f"{name}_set", True)
+            self.writer.large.known[name] = Large(name, kind, 0, reads, sets, partial(field, column, kind, first))
+            i, v = ("at" if column == "i" else "i"), ("value" if column == "v" else "v")
+            text = f"static {kind.text} {reads}(int {i}) {{ return {field(column, kind, first, i)}; }}"
+            steps = []
+            for at, mask in enumerate(masks(kind, first)):
+                byte = f"{column}[{i}{f' + {at}' if at else ''}]"
+                moved = f"{v} << {first}" if at == 0 and first else f"{v} >> {8 * at - first}" if 8 * at > first else v
+                steps.append(
+                    f"{byte} = {byte} & {255 - mask} | ({moved}) & {mask};" if mask < 255 else f"{byte} = {moved};"
+                )
+            sets_text = f" static void {sets}(int {i}, unsigned int {v}) {{ {' '.join(steps)} }}"
+            self.texts[key] = text if const else text + sets_text
+        return self.names[key]
+
+    @staticmethod
+    def part_functions(column: str, own: str, reads: str, sets: str, const: bool) -> str:
+        """The functions that read and set a part of a pointer."""
+        i, v = ("at" if column == "i" else "i"), ("value" if column == "v" else "v")
+        text = f"static int {reads}(int {i}) {{ return {part(column, own, i)}; }}"
+        first, count, more = c_types.PACKED[own]
+        value = f"{v} + {more}" if more else v
+        steps = [
+            f"{column}[{i}{f' + {first + at}' if first + at else ''}] = {f'({value}) >> {8 * at}' if at else value};"
+            for at in range(count)
+        ]
+        return text if const else f"{text} static void {sets}(int {i}, int {v}) {{ {' '.join(steps)} }}"
 
     @staticmethod
     def functions(column: str, kind: Int, reads: str, sets: str, const: bool) -> str:
@@ -94,7 +172,16 @@ class Raw(Component):
         found = ["0"] * (c_types.size(made.of_type) or 0)
         for spot, node in made.given.items():
             kind, begin = made.types[spot], made.offset(spot)
+            if isinstance(kind, Pointer):
+                for own, texts in self.pointer_bytes(node, kind).items():
+                    first = begin + c_types.PACKED[own][0]
+                    found[first : first + len(texts)] = texts
+                continue
             assert isinstance(kind, Int)
+            if kind.width:
+                raise Refused(
+                    node.coord, "a first value of a bit-field of a union that stands as its bytes", "assign it"
+                )
             known = self.writer.constants.value(node)
             if known is None:
                 value = self.writer.conversions.converted(self.writer.expressions.value(node), kind)
@@ -103,6 +190,16 @@ class Raw(Component):
             else:
                 texts = [str(c_types.fit(known, kind) >> 8 * at & 255) for at in range(kind.bits // 8)]
             found[begin : begin + len(texts)] = texts
+        return found
+
+    def pointer_bytes(self, node: tree.Expression, of: Pointer) -> dict[str, list[str]]:
+        """The bytes of a pointer's value, part by part."""
+        found = {}
+        for own, value in self.writer.pointers.pointer(node).items():
+            _, count, more = c_types.PACKED[own]
+            if own in of.region.parts():
+                name = self.writer.temporary(c_types.INT, plus(value, Value(str(more), c_types.INT, PRIMARY)).text)
+                found[own] = [f"{name} >> {8 * at}" if at else name for at in range(count)]
         return found
 
     def put_bytes(self, integers: list[tuple[Leaf, list[str]]], values: list[str]) -> None:
@@ -133,6 +230,8 @@ class Raw(Component):
                 times(self.narrow(writer.elements.steady_value(writer.expressions.value(node)), tests, node), step),
             )
         total, size = plus(base, inner), c_types.size(place.type) or 1
+        if place.path and place.path[-1].startswith(FIELD) and isinstance(place.type, Int):
+            size = len(masks(place.type, int(place.path[-1][len(FIELD) :])))
         if at is not None and at.ends:
             last = plus(total, Value(str(size - 1), c_types.INT, PRIMARY))
             tests += [f"{last.within(8)} >= {at.ends[END].within(8)}"] if END in at.ends else []
@@ -145,6 +244,20 @@ class Raw(Component):
         if stable and number(total) is None:
             total = Value(writer.temporary(c_types.INT, total.text, "index"), c_types.INT, PRIMARY)
         return total
+
+    def pointing(self, place: Place) -> dict[str, Value]:
+        """A pointer to a place within an object, with the end and the begin of the whole object: those of the pointer by which the
+        place is named, or those of the variable."""
+        index = self.index(place, True, False)
+        at = place.indexes[0][0] if len(place.indexes) == 1 and isinstance(place.indexes[0][0], At) else None
+        if at is not None:
+            return {INDEX: index, END: index, BEGIN: index, **(at.ends or {})}
+        if place.region is None or place.region.parts() == [INDEX]:
+            return {INDEX: index, END: index, BEGIN: index}
+        begin = plus(index, minus(place.offset))
+        if place.inside:
+            begin = self.index(replace(place, inside=(), offset=0), True, False)
+        return {INDEX: index, END: plus(begin, Value(str(place.whole), c_types.INT, PRIMARY)), BEGIN: begin}
 
     def inner_range(self, place: Place) -> Range:
         """Between which bytes of its object a place begins."""

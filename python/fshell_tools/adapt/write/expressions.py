@@ -154,7 +154,9 @@ class Expressions(Component):
                 index = self.writer.pointers.pointer(node)[INDEX]
                 return Value(f"{self.writer.at(node)}{index.within(7)} != {NIL}", c_types.INT, 6, True, index.calls)
             return (
-                self.value(node) if null is None else Value(self.writer.at(node) + "1", c_types.INT, PRIMARY, truth=True)
+                self.value(node)
+                if null is None
+                else Value(self.writer.at(node) + "1", c_types.INT, PRIMARY, truth=True)
             )
         return Value("0", c_types.INT, PRIMARY)
 

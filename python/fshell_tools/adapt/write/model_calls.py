@@ -11,6 +11,7 @@ from fshell_tools.adapt.common import c_types, tree
 from fshell_tools.adapt.common.c_types import BEGIN, END, INDEX, NIL, Int, Pointer, Region, Struct
 from fshell_tools.adapt.common.output import unmarked
 from fshell_tools.adapt.common.refusals import Refused
+from fshell_tools.adapt.names.value_ranges import within
 from fshell_tools.adapt.points_to.models import WHOLE, Model, element_count, letter
 from fshell_tools.adapt.write.component import Component
 
@@ -182,8 +183,50 @@ class ModelCalls(Component):
             return f"{text} / {size} | -({text} % {size} != 0)", "size_t"
         if isinstance(whole, int):
             return str(whole), count
-        value = self.writer.expressions.value(whole)
-        return value.text, "unsigned int" if value.kind.bits <= 32 else "size_t"
+        if whole is node or not self.may_wrap(node, whole, size):
+            value = self.writer.expressions.value(whole)
+            return value.text, "unsigned int" if value.kind.bits <= 32 else "size_t"
+        return self.wrapped(node, whole, size)
+
+    def may_wrap(self, node: tree.Expression, factor: tree.Expression, size: int) -> bool:
+        """Whether a number of bytes, which is a factor times a size, may be cut in its unsigned type or by a cast (6.2.5p9, 6.3.1.3p2)."""
+        bits, cut = self.bits_of(node)
+        found, plain, of_type = self.writer.ranges.of(factor), factor, self.writer.constants.type_of
+        while isinstance(plain, tree.Cast) and isinstance(of_type(plain), Int) and isinstance(of_type(plain.expr), Int):
+            if c_types.size(of_type(plain)) != c_types.size(c_types.SIZE):
+                break
+            plain = plain.expr
+        of = of_type(plain)
+        if found is not None and within(found, (0, ((1 << bits - (not cut)) - 1) // size)):
+            return False
+        narrow = isinstance(of, Int) and of.bits <= 32
+        return not (bits == 64 and narrow) and (cut or not narrow or bits < 64)
+
+    def bits_of(self, node: tree.Expression) -> tuple[int, bool]:
+        """In how many bits a product is reckoned, through its casts, and whether it may wrap there: a signed one may not (6.5p5)."""
+        bits, cut, constants = 64, False, self.writer.constants
+        while isinstance(node, tree.Cast):
+            to = self.writer.names.types.get(node.to_type)
+            bits, node = min(bits, to.bits if isinstance(to, Int) else 64), node.expr
+            cut = cut or bits < 64
+        of = constants.type_of(node)
+        if isinstance(of, Int):
+            cut = cut and bits < of.bits or not of.signed
+            bits = min(bits, of.bits)
+        return bits, cut
+
+    def wrapped(self, node: tree.Expression, factor: tree.Expression, size: int) -> tuple[str, str]:
+        """The number of elements of a product that may wrap: the factor's last bits where the size is a power of two, else the product
+        divided; a number of bytes that is no whole number of elements ends the run."""
+        bits, _ = self.bits_of(node)
+        of = self.writer.constants.type_of(node)
+        if size & (size - 1) == 0 and isinstance(of, Int) and not of.signed:
+            value, mask = self.writer.expressions.value(factor), (1 << bits) // size - 1
+            kind = "unsigned int" if bits <= 32 else "size_t"
+            return f"({kind}) {value.within(UNARY)} & {hex(mask)}{'u' if bits <= 32 else 'ul'}", kind
+        given = self.writer.elements.steady_value(self.writer.expressions.value(node))
+        text = f"(size_t) {given.within(UNARY)}"
+        return f"{text} / {size} | -({text} % {size} != 0)", "size_t"
 
     def model_region(self, node: tree.Expression) -> Region:
         """The region of a pointer that a model gets. Raises Refused where its objects aren't known, or are large."""

@@ -101,7 +101,9 @@ class PointerEffects(Component):
             begin, column = index or self.writer.raw.index(place, True), self.writer.spelling.leaf(place.variable, ())
             count = c_types.size(place.type) or 0
             ends = [plus(begin, Value(str(at), c_types.INT, PRIMARY)).text for at in range(count)]
-            return [(c_types.Leaf((), (count,), c_types.Int(8, False, "")), [f"{column}[{unmarked(one)}]" for one in ends])]
+            return [
+                (c_types.Leaf((), (count,), c_types.Int(8, False, "")), [f"{column}[{unmarked(one)}]" for one in ends])
+            ]
         if self.writer.places.is_raw(place):
             base = self.writer.raw.known(place, index or self.writer.raw.index(place, True))
         elif index is not None:

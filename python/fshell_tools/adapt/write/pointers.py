@@ -1,6 +1,7 @@
 """Writes the values of pointers: the index of what is pointed to in its column, and where they matter the end and the begin of
 its object. An access outside of the object becomes the index -1, which ends a run, and never reads a neighbour."""
 
+from dataclasses import replace
 from typing import Optional, TypeGuard
 
 from fshell_tools.adapt.bind.lvalues import At
@@ -14,7 +15,7 @@ from fshell_tools.adapt.effects.side_effects import STEPS
 from fshell_tools.adapt.names.value_ranges import SMALL, within
 from fshell_tools.adapt.points_to.heap import heap_call
 from fshell_tools.adapt.points_to.models import model_of
-from fshell_tools.adapt.write import first_member_casts, statement_exprs
+from fshell_tools.adapt.write import statement_exprs
 from fshell_tools.adapt.write.component import Component
 
 
@@ -63,8 +64,7 @@ class Pointers(Component):
         if isinstance(self.writer.constants.type_of(node), Signature):
             return self.code(node, of)
         if isinstance(node, tree.Cast):
-            first = self.writer.columns.points.firsts.get(node)
-            return first_member_casts.cast(self.writer, node, first) if first else self.pointer(node.expr)
+            return self.pointer(node.expr)
         if isinstance(node, tree.UnaryOp) and node.op == "&":
             return self.address(node)
         if isinstance(node, tree.UnaryOp) and node.op in STEPS:
@@ -112,8 +112,12 @@ class Pointers(Component):
         """The integers of a pointer that lies at a place."""
         found = {}
         assert isinstance(place.type, Pointer)
+        raw = self.writer.places.is_raw(place)
         for part in place.type.region.parts():
-            name = self.writer.spelling.leaf(place.variable, place.path + (part,))
+            own = replace(place, path=(part,), type=c_types.INT)
+            name = (
+                self.writer.raw.array(own) if raw else self.writer.spelling.leaf(place.variable, place.path + (part,))
+            )
             text = name if index is None else f"{name}[{index.text}]"
             found[part] = Value(text, c_types.INT, PRIMARY, calls=index is not None and index.calls)
         return found
@@ -132,23 +136,14 @@ class Pointers(Component):
         """A pointer to a place within an object. Raises Refused for an object that lies in no column."""
         if place.variable.home != "column" or place.path:
             raise Refused(None, f"the address of {place.variable.name}", "name the object itself")
-        raw = self.writer.places.is_raw(place)
-        index = (
-            self.writer.raw.index(place, True, False) if raw else self.writer.elements.index(place, True, False, True)
-        )
+        if self.writer.places.is_raw(place):
+            return self.writer.raw.pointing(place)
+        index = self.writer.elements.index(place, True, False, True)
         assert index is not None
         begin = index
         if isinstance(around.type, Array):
-            first = self.first_element(around)
-            begin = (
-                self.writer.raw.index(first, True, False) if raw else self.writer.elements.index(first, True) or index
-            )
-        count = (
-            self.writer.columns.count(around.type, place.region)
-            if raw and place.region is not None
-            else c_types.elements(around.type)
-        )
-        end = plus(begin, Value(str(count), c_types.INT, PRIMARY))
+            begin = self.writer.elements.index(self.first_element(around), True) or index
+        end = plus(begin, Value(str(c_types.elements(around.type)), c_types.INT, PRIMARY))
         return {INDEX: index, END: end, BEGIN: begin}
 
     def address(self, node: tree.UnaryOp) -> Parts:

@@ -3,12 +3,14 @@
 import re
 from fshell_tools.adapt.bind.bindings import key
 from fshell_tools.adapt.bind.initializers import Part, filled, none_of
+from fshell_tools.adapt.bind.lvalues import FIELD
 from fshell_tools.adapt.common import c_types, tree
 from fshell_tools.adapt.common.c_types import MOST_INDEX, Int, Path, Pointer, Region
 from fshell_tools.adapt.common.objects import Function, Place, Variable
 from fshell_tools.adapt.common.output import File, unmarked
 from fshell_tools.adapt.common.refusals import Refused
 from fshell_tools.adapt.effects.side_effects import pointee
+from fshell_tools.adapt.write.byte_access import masks
 from fshell_tools.adapt.write.calls import MOST_ELEMENTS
 from fshell_tools.adapt.write.component import Component
 
@@ -94,7 +96,16 @@ class ColumnItems(Component):
         index, of = self.writer.elements.index(place, False), place.type
         if index is None or not isinstance(of, Int):
             return
-        if self.writer.places.is_raw(place):
+        if self.writer.places.is_raw(place) and place.path and place.path[-1].startswith(FIELD):
+            first, own = int(place.path[-1][len(FIELD) :]), found.setdefault((place.variable, ()), {})
+            word = int(self.first_number(node, of)) % (1 << of.width) << first
+            for byte in range(len(masks(of, first))):
+                own[int(index.text) + byte] = str(int(own.get(int(index.text) + byte, "0")) | word >> (8 * byte) & 255)
+        elif self.writer.places.is_raw(place) and place.path:
+            first, count, more = c_types.PACKED[place.path[-1]]
+            word, own = int(self.first_number(node, of)) + more, found.setdefault((place.variable, ()), {})
+            own.update({int(index.text) + first + byte: str(word >> (8 * byte) & 255) for byte in range(count)})
+        elif self.writer.places.is_raw(place):
             word = int(self.first_number(node, of))
             own = found.setdefault((place.variable, ()), {})
             own.update({int(index.text) + byte: str(word >> (8 * byte) & 255) for byte in range(of.bits // 8)})
