@@ -422,7 +422,33 @@ def a_stopped_run_goes_on(folder: str) -> Iterator[bool]:
 
 
 GRAPH = ("graph",)
-TRIED = [(ADAPT, each_form_is_a_call), (ADAPT, conversions_are_calls), (ADAPT, words_that_go_together), (ADAPT, a_broken_table_is_told),
+# by hand: the location of each operation in the original, whose first function begins on line 1
+MODEL_IN_FRONT = """int f(int n) {
+  int s = abs(n);
+  s += 100 / (n - 5);
+  return s + n * 7;
+}
+"""
+ON_ONE_LINE = "int g(int x) { if (x) { return 2; } } int f(int n) { return n + g(n); }\n"
+
+
+def models_keep_lines(folder: str) -> Iterator[bool]:
+    """A model of the library in front takes no statement off its line, and each checked operation has its own location, also behind a
+    function that ends without a `return`."""
+    for text, due in ((MODEL_IN_FRONT, ["3:5", "3:15", "3:17", "4:12", "4:16"]), (ON_ONE_LINE, ["1:63"])):
+        put(folder, {"a.c": text})
+        run(folder, ["adapt", "a.c", "-o", "ad", "--check-overflow"])
+        with open(os.path.join(folder, "ad", "a.c"), encoding="utf-8") as file:
+            lines = file.read().splitlines()
+        yield len(lines) == text.count("\n") and all("return" not in line for line in lines[1:3])
+        run(folder, ["rte", "f", "ad/overflow.h", "ad/a.c", "-o", f"d{len(due)}"])
+        with open(os.path.join(folder, f"d{len(due)}", "rte.json"), encoding="utf-8") as file:
+            rows = json.load(file)["rows"]
+        places = [row["place"] for row in rows if row["operations"][0]["kind"] in ("overflow", "division", "call")]
+        yield [place for place in places if place != "a.c:1:1"] == [f"a.c:{one}" for one in due]
+
+
+TRIED = [(ADAPT, models_keep_lines), (ADAPT, each_form_is_a_call), (ADAPT, conversions_are_calls), (ADAPT, words_that_go_together), (ADAPT, a_broken_table_is_told),
          (GRAPH, eight_of_each_verdict), ((*ADAPT, "jinja2"), planted_faults_are_red), (ADAPT, green_rows_are_certified),
          (("graph", "gcc"), failures_are_repeated), (GRAPH, other_programs_read_it), (("graph", "jinja2"), a_page_has_each_row),
          ((), colours_have_contrast), (GRAPH, a_stopped_run_goes_on)]  # fmt: skip

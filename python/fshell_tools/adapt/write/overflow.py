@@ -204,7 +204,7 @@ class Overflow(Component):
                 clean += part
                 if site is not None:
                     one = self.sites[int(site)]
-                    column = len(clean) - len(one.function) + 1
+                    column = len(clean.replace(FELL, "")) - len(one.function) + 1
                     row: dict[str, Union[str, int]] = {
                         "file": os.path.basename(path),
                         "line": number_of,

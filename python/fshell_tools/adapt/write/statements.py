@@ -11,6 +11,7 @@ from fshell_tools.adapt.common.c_types import Int, Pointer, Struct
 from fshell_tools.adapt.common.objects import Function, Place, Variable
 from fshell_tools.adapt.common.refusals import Refused
 from fshell_tools.adapt.common.tree import LOOPS, walk
+from fshell_tools.adapt.expand.library import Spot
 from fshell_tools.adapt.write.component import Component
 from fshell_tools.adapt.write.statement_exprs import ranged
 from fshell_tools.adapt.write.struct_assignments import MOST_COPIED
@@ -90,6 +91,8 @@ class Statements(Component):
     def go_to_end(self, node: tree.Node) -> None:
         """What is written next stands on the line of the brace that closes a block."""
         if not isinstance(node, tree.Compound) or not node.coord or str(node.coord.file) != self.writer.original:
+            return
+        if isinstance(node.coord, Spot):  # (a model has no brace in the source)
             return
         lines = self.writer.closings.get((self.writer.original, node.coord.line), [])
         at = bisect_left(lines, self.writer.line)
