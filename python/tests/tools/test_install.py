@@ -18,7 +18,7 @@ from tests.tools import Case, example, put, run
 
 COMMANDS = ["fshell-" + name for name in ("measure", "goals", "runs", "generate", "prove", "check", "bounds", "prove-bounds", "check-bounds", "least", "traces", "replay", "trees", "events", "graph", "sample")]  # fmt: skip
 CASES = [
-    Case("install: a folder that can't be made", ["install", "a/b"], {"a": "a file\n"}, 2, "", "install: a/b/bin: Not a directory\n"),
+    Case("install: a folder that can't be made", ["install", "a/b"], {"a": "a file\n"}, 2, "", "install: a/b/lib/fshell: Not a directory\n"),
 ]  # fmt: skip
 
 
