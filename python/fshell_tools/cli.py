@@ -96,7 +96,9 @@ def help_of(name: str) -> str:
     about = f"usage: fshell {name} {takes.replace('`', '')}\n\n{commands.ALL[name].summary}\n"
     wanted = {one.split()[0] for one in takes.split("`") if one.startswith("--")}
     options = [cells for cells in rows if len(cells) == 4 and cells[0].strip("`") in wanted]
-    told = [f"  {cells[0].strip('`'):{WIDTH}}{cells[3].replace('`', '')}{of_range(cells[1], cells[2])}" for cells in options]
+    told = [
+        f"  {cells[0].strip('`'):{WIDTH}}{cells[3].replace('`', '')}{of_range(cells[1], cells[2])}" for cells in options
+    ]
     return about + "".join(f"{line}\n" for line in ["", *told] if options) + f"\nExamples: {page}\n"
 
 

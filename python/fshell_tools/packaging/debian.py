@@ -99,9 +99,7 @@ def fitted(top: str) -> None:
     scripts = os.path.join(top, "usr/lib/fshell/bin")
     for name in os.listdir(scripts):
         text = program.read(os.path.join(scripts, name)).decode()
-        install.put(
-            re.sub(r"\bpython3 (?=\")", "/usr/bin/python3 ", text), os.path.join(scripts, name), True
-        )
+        install.put(re.sub(r"\bpython3 (?=\")", "/usr/bin/python3 ", text), os.path.join(scripts, name), True)
     for at, folders, names in os.walk(top):
         for one in folders:
             os.chmod(os.path.join(at, one), 0o755)

@@ -138,7 +138,9 @@ def parser_of_words() -> argument_parsers.Parser:
     parser = argument_parsers.parser("install", __doc__, done, missing)
     parser.add_argument("prefix", nargs="?", metavar="PREFIX", help="such as /usr/local or ~/.local")
     parser.add_argument("--force", action="store_true", help="replaces files there that it didn't put there")
-    parser.add_argument("--uninstall", action="store_true", help="takes back what it put there; what was changed since stays")
+    parser.add_argument(
+        "--uninstall", action="store_true", help="takes back what it put there; what was changed since stays"
+    )
     parser.add_argument("--check", action="store_true", help="says which of the things that tools need are there")
     return parser
 
@@ -163,5 +165,7 @@ def main() -> int:
     if given.uninstall:
         return taken_back(given.prefix)
     count = install(given.prefix, given.force)
-    print(f"{given.prefix}: the program, {len(cli.TOOLS)} tools, {count} manual pages, and completion for bash, zsh and fish")
+    print(
+        f"{given.prefix}: the program, {len(cli.TOOLS)} tools, {count} manual pages, and completion for bash, zsh and fish"
+    )
     return program.DONE

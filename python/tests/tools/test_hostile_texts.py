@@ -30,6 +30,8 @@ TOOLS_OF_A_SOURCE = (
 INPUTS = (
     '[{"args": [1], "id": "\\ud800"}]',
     '[{"\\ud800": 1}]',
+    '[{"id": "\\ud800", "arguments": {"\\ud800": 1}}]',
+    '{"command": "\\ud800", "bounds": {}}',
     '{"command": "generate", "bounds": "\\ud800"}',
     '[{"args": [' + "9" * 5000 + "]}]",
     "[" * 100_000,

@@ -18,7 +18,7 @@ from tests.tools import Case, example, put, run
 
 COMMANDS = ["fshell-" + name for name in ("measure", "goals", "runs", "generate", "prove", "check", "bounds", "prove-bounds", "check-bounds", "least", "traces", "replay", "trees", "events", "graph", "sample")]  # fmt: skip
 CASES = [
-    Case("install: a folder that can't be made", ["install", "a/b"], {"a": "a file\n"}, 2, "", "install: a/b/bin: Not a directory\n"),
+    Case("install: a folder that can't be made", ["install", "a/b"], {"a": "a file\n"}, 2, "", "install: a/b/lib/fshell: Not a directory\n"),
 ]  # fmt: skip
 
 
@@ -73,14 +73,18 @@ def installed_adapt_has_its_models(folder: str) -> Iterator[bool]:
 def a_wheel_has_the_program(folder: str) -> Iterator[bool]:
     """What `pip install ./python` unpacks: the tools, which find the released program beside them, and its sums."""
     building = f"import wheel_backend; print(wheel_backend.build_wheel({folder!r}))"
-    made = subprocess.run([sys.executable, "-c", building], cwd=environment.TOOLS, capture_output=True, text=True).stdout
+    made = subprocess.run(
+        [sys.executable, "-c", building], cwd=environment.TOOLS, capture_output=True, text=True
+    ).stdout
     with zipfile.ZipFile(os.path.join(folder, made.strip())) as wheel:
         wheel.extractall(os.path.join(folder, "site"))
         (program,) = (one for one in wheel.infolist() if one.filename == "fshell_tools/released/fshell")
     yield program.external_attr >> 16 & 0o111 == 0o111
     path = os.path.join(folder, "site", program.filename)
     os.chmod(path, 0o755)  # (as pip does by that mode)
-    own = {name: value for name, value in os.environ.items() if name != "FSHELL"} | {"PYTHONPATH": os.path.join(folder, "site")}
+    own = {name: value for name, value in os.environ.items() if name != "FSHELL"} | {
+        "PYTHONPATH": os.path.join(folder, "site")
+    }
     put(folder, {"both.c": example("counting/both.c")})
 
     def installed(*words: str) -> str:
@@ -120,7 +124,9 @@ def tree_of(folder: str) -> dict[str, str]:
 def what_others_put_there_stays(folder: str) -> Iterator[bool]:
     """A file, a link and a folder in the place of one of its files, and a file of its own that was changed: nothing is written, but
     with --force."""
-    for number, (name, target) in enumerate((("bin/fshell", ""), ("share/man/man1/fshell.1", "victim"), ("lib/fshell/program", ""))):
+    for number, (name, target) in enumerate(
+        (("bin/fshell", ""), ("share/man/man1/fshell.1", "victim"), ("lib/fshell/program", ""))
+    ):
         prefix = os.path.join(folder, str(number))
         put(folder, {"victim": "precious\n"})
         os.makedirs(os.path.dirname(os.path.join(prefix, name)))
@@ -351,7 +357,9 @@ def needs_are_told(folder: str) -> Iterator[bool]:
 def manual_pages_are_shown(folder: str) -> Iterator[bool]:
     run(folder, ["install", "to"])
     pages = os.path.join(folder, "to", "share", "man", "man1")
-    yield sorted(os.listdir(pages)) == sorted(f"{name}.1" for name in ["fshell", *COMMANDS, *(f"fshell-{name}" for name in cli.TOOLS)])
+    yield sorted(os.listdir(pages)) == sorted(
+        f"{name}.1" for name in ["fshell", *COMMANDS, *(f"fshell-{name}" for name in cli.TOOLS)]
+    )
     for name in os.listdir(pages):
         words = ["man", "--warnings", "-l", os.path.join(pages, name)]
         shown = subprocess.run(
