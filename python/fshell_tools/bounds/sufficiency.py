@@ -8,7 +8,7 @@ from collections.abc import Iterator, Mapping, Sequence
 from dataclasses import dataclass, field
 from typing import Any
 
-from fshell_tools.core import inputs, original_sources, program
+from fshell_tools.core import inputs, original_sources, program, translation_traps
 from fshell_tools.core.graph import Edge, Graph
 from fshell_tools.core.program import RANGES
 from fshell_tools.core.reports import BOUNDS, Input, Run, input_of
@@ -151,7 +151,8 @@ def of_answer(
     if not said.startswith("bounds left "):
         if not said.startswith("bounds suffice"):
             return Left(Limits())
-        return Left(Limits(suffice=True, restriction=order.restriction(entry, sources, query, ends, place)))
+        why = translation_traps.restriction(entry, sources, options_of(bounds), place)
+        return Left(Limits(suffice=True, restriction=why or order.restriction(entry, sources, query, ends, place)))
     one = input_of(said.removeprefix("bounds left "))
     run = run_of(entry, sources, one, place)
     tried = next_bounds(graph, run, bounds)

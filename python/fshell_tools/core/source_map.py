@@ -31,6 +31,7 @@ class Mapped:
     places: dict[Spot, Spot]
     names: dict[str, str]
     temporaries: dict[str, Spot]
+    traps: list[tuple[int, str, str, bool]]  # the line, the reason, C's clause, and whether C gives it no meaning
 
 
 def sum_of(data: bytes) -> str:
@@ -62,6 +63,18 @@ def _texts(value: object) -> dict[str, str]:
     return value
 
 
+def _traps(value: object) -> list[tuple[int, str, str, bool]]:
+    """Rows of traps; ValueError where they are none."""
+    if not isinstance(value, list):
+        raise ValueError
+    rows = [(line, reason, clause, bool(fault)) for line, reason, clause, fault in value]
+    if not all(
+        type(line) is int and isinstance(reason, str) and isinstance(clause, str) for line, reason, clause, _ in rows
+    ):
+        raise ValueError
+    return rows
+
+
 @functools.cache
 def _read(path: str) -> dict[str, Any] | None:
     """The map at a path, or nothing where there is none."""
@@ -76,6 +89,7 @@ def _read(path: str) -> dict[str, Any] | None:
             _texts({name: one[name] for name in ("original", "sum", "original-sum")})
             _texts(one["names"])
             _spots(list(one["temporaries"].values()), 2)
+            _traps(one.get("traps", []))
     except (ValueError, KeyError, TypeError, AttributeError, RecursionError):
         raise _wrong(path, "it is no map of sources") from None
     return value
@@ -100,7 +114,7 @@ def of_source(name: str, place: str = ".") -> Mapped | None:
         raise _wrong(path, f"{original} has changed since {name} was written")
     places = {(row[0], row[1]): (row[2], row[3]) for row in one["places"]}
     temporaries = {key: (row[0], row[1]) for key, row in one["temporaries"].items()}
-    return Mapped(original, data, places, one["names"], temporaries)
+    return Mapped(original, data, places, one["names"], temporaries, _traps(one.get("traps", [])))
 
 
 # ---- writing
@@ -119,6 +133,7 @@ def entry_of(
     places: list[list[int]],
     names: dict[str, str],
     temporaries: dict[str, Spot],
+    traps: list[list[int | str]],
 ) -> dict[str, Any]:
     """What a map says of one source."""
     return {
@@ -128,4 +143,5 @@ def entry_of(
         "places": places,
         "names": names,
         "temporaries": {name: list(spot) for name, spot in temporaries.items()},
+        "traps": traps,
     }

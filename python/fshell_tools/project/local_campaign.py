@@ -7,12 +7,12 @@ import json
 import os
 from typing import Any
 
-from fshell_tools.bounds.sufficiency import Left
+from fshell_tools.bounds.sufficiency import Left, options_of
 from fshell_tools.campaign.main import Campaign, check_parallel, sizes
 from fshell_tools.campaign.report import Told
 from fshell_tools.campaign.request import Asked
 from fshell_tools.campaign.state_folder import Folder
-from fshell_tools.core import inputs
+from fshell_tools.core import inputs, translation_traps
 from fshell_tools.core.reports import Input, Report
 from fshell_tools.order import main as order
 from fshell_tools.project.work_folder import Place
@@ -63,7 +63,8 @@ class Known(Told):
             return self.known
         asked = self.asked
         restriction = order.restriction(asked.entry, asked.sources, asked.query, "returned", asked.place)
-        return Left(dataclasses.replace(self.known.limits, restriction=restriction), self.known.options)
+        why = translation_traps.restriction(asked.entry, asked.sources, options_of(asked.bounds), asked.place)
+        return Left(dataclasses.replace(self.known.limits, restriction=why or restriction), self.known.options)
 
 
 def decide(

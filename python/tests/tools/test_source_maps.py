@@ -296,8 +296,44 @@ def the_project_reports_the_original(folder: str) -> Iterator[bool]:
 
 
 NONE: list[str] = []
+TRAPS = """static int a[3] = {1, 2, 3}, b[2];
+static int at(const int *p, unsigned i) { return p[i]; }
+int f(unsigned i) {
+  if (i > 2) return 0;
+  if (at(a, i) == 3) return 1;
+  return at(b, i & 1);
+}
+int g(unsigned i) {
+  if (at(a, i) == 3) return 1;
+  return at(b, 0);
+}
+int h(unsigned i) { return i == 3; }
+"""
+
+
+def traps_that_are_added_are_listed(folder: str) -> Iterator[bool]:
+    """The map names the line with the access by a pointer, with C's clause. By the inputs below 3 that `f` lets through no run comes to the
+    trap; `g` comes to it by each other one (6.5.6p8), so a campaign of it says that nothing refuted is called unreachable. Nothing is
+    listed of a source without a map."""
+    from fshell_tools.core import translation_traps
+
+    put(folder, {"a.c": TRAPS, "plain.c": "int f(int x) { return x; }\n"})
+    yield run(folder, ["adapt", "a.c", "-o", "new"]).returncode == 0
+    found = translation_traps.listed(["new/a.c"], folder)
+    yield [(one.file, one.line, one.is_fault) for one in found] == [("new/a.c", 2, True)] and "6.5.6p8" in found[0].clause
+    yield translation_traps.listed(["plain.c"], folder) == []
+    yield translation_traps.reachable("f", ["new/a.c"], [], folder) == []
+    yield translation_traps.reachable("g", ["new/a.c"], [], folder) == found
+    due = "the translation traps at new/a.c:2 (an index outside of its object, a null pointer, or one to an object that is gone)"
+    yield found[0].text == due
+    told = f"no refuted goal is called unreachable: {due}\n"
+    for entry, is_told in (("f", False), ("g", True)):
+        words = ["campaign", entry, "cover @CONDITIONEDGE", "new/a.c", "-o", entry, "--jobs", "1"]
+        yield (told in run(folder, words).stdout) == is_told
+
+
 WAYS = [("can.c", NONE), ("uart.c", NONE), ("pid.c", ["--input", "sensor_read", "--input", "actuator_write"]),
         ("menu.c", ["--input", "display_show"]), ("modbus.c", ["--input", "line_write"])]  # fmt: skip
 TRIED = [(NEEDS, explain_shows_what_the_user_wrote), (NEEDS, columns_are_those_of_the_user), (NEEDS, a_condition_with_an_assignment_begins_at_its_bracket), ((*NEEDS, "jinja2"), each_report_names_the_original),
-         (NEEDS, bounds_and_orders_name_the_original), (NEEDS, without_a_map_all_is_as_before), (NEEDS, a_bad_map_is_told_in_a_line),
+         (NEEDS, bounds_and_orders_name_the_original), (NEEDS, without_a_map_all_is_as_before), (NEEDS, a_bad_map_is_told_in_a_line), (NEEDS, traps_that_are_added_are_listed),
          *((NEEDS, of_module(name, words)) for name, words in WAYS), (NEEDS, a_module_of_four_hundred_lines), ((*NEEDS, "jinja2"), the_project_reports_the_original)]  # fmt: skip

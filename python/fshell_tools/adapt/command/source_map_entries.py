@@ -13,6 +13,7 @@ from typing import Optional
 from fshell_tools.core import program, source_map
 from fshell_tools.core.sources import CLOSING, OPENING, Source, plain
 
+from fshell_tools.adapt.command import trap_entries
 from fshell_tools.adapt.common import tree
 from fshell_tools.adapt.common.c_types import INDEX, Pointer
 from fshell_tools.adapt.common.objects import Variable
@@ -206,13 +207,14 @@ def text_of(writer: Writer, units: Sequence[Unit], texts: dict[str, str], folder
                 known[name] = told
         named = {**cells, **{name: plain(shown_text) for name, (_, shown_text) in known.items()}}
         spots = {name: spot for name, (spot, _) in known.items()}
-        written = text.replace(FELL, "").encode(errors="surrogateescape")
+        plain_text = text.replace(FELL, "")
+        written, traps = plain_text.encode(errors="surrogateescape"), trap_entries.rows(writer, plain_text)
         kept = os.path.relpath(os.path.realpath(path), os.path.realpath(folder))
         file = writer.files[path]
         rows.append(
             (
                 os.path.basename(path),
-                source_map.entry_of(kept, original.data, written, places(original, file), named, spots),
+                source_map.entry_of(kept, original.data, written, places(original, file), named, spots, traps),
             )
         )
     return source_map.text_of(rows)
