@@ -32,6 +32,7 @@ class Mapped:
     names: dict[str, str]
     temporaries: dict[str, Spot]
     traps: list[tuple[int, str, str, bool]]  # the line, the reason, C's clause, and whether C gives it no meaning
+    functions: dict[str, list[str]] | None  # the user's own, with their parameters that are pointers
 
 
 def sum_of(data: bytes) -> str:
@@ -75,6 +76,17 @@ def _traps(value: object) -> list[tuple[int, str, str, bool]]:
     return rows
 
 
+def _functions(value: object) -> dict[str, list[str]] | None:
+    """Functions with the names of parameters, or none; ValueError where it is something else."""
+    if value is None:
+        return None
+    if not isinstance(value, dict) or not all(isinstance(names, list) for names in value.values()):
+        raise ValueError
+    if not all(isinstance(name, str) for names in value.values() for name in names):
+        raise ValueError
+    return value
+
+
 @functools.cache
 def _read(path: str) -> dict[str, Any] | None:
     """The map at a path, or nothing where there is none."""
@@ -90,6 +102,7 @@ def _read(path: str) -> dict[str, Any] | None:
             _texts(one["names"])
             _spots(list(one["temporaries"].values()), 2)
             _traps(one.get("traps", []))
+            _functions(one.get("functions"))
     except (ValueError, KeyError, TypeError, AttributeError, RecursionError):
         raise _wrong(path, "it is no map of sources") from None
     return value
@@ -114,7 +127,7 @@ def of_source(name: str, place: str = ".") -> Mapped | None:
         raise _wrong(path, f"{original} has changed since {name} was written")
     places = {(row[0], row[1]): (row[2], row[3]) for row in one["places"]}
     temporaries = {key: (row[0], row[1]) for key, row in one["temporaries"].items()}
-    return Mapped(original, data, places, one["names"], temporaries, _traps(one.get("traps", [])))
+    return Mapped(original, data, places, one["names"], temporaries, _traps(one.get("traps", [])), _functions(one.get("functions")))
 
 
 # ---- writing
@@ -134,6 +147,7 @@ def entry_of(
     names: dict[str, str],
     temporaries: dict[str, Spot],
     traps: list[list[int | str]],
+    functions: dict[str, list[str]],
 ) -> dict[str, Any]:
     """What a map says of one source."""
     return {
@@ -144,4 +158,5 @@ def entry_of(
         "names": names,
         "temporaries": {name: list(spot) for name, spot in temporaries.items()},
         "traps": traps,
+        "functions": functions,
     }

@@ -5,7 +5,7 @@ trap; `reachable` asks the program, with its certificates, by one query."""
 from collections.abc import Sequence
 from dataclasses import dataclass
 
-from fshell_tools.core import program, source_map
+from fshell_tools.core import environments, program, source_map
 from fshell_tools.core.program import Failure
 
 MOST = 400  # traps in one query
@@ -49,9 +49,11 @@ def query(traps: Sequence[Trap]) -> str:
 
 
 def restriction(entry: str, sources: Sequence[str], bounds: Sequence[str], place: str | None = None) -> str:
-    """Why a goal that is refuted of what fshell adapt wrote isn't called unreachable in the original, in words; nothing where no run within
-    the bounds comes to a trap that was added, or none was."""
+    """Why a goal that is refuted of what fshell adapt wrote isn't called unreachable in the original, in words; nothing where the entry's
+    environment is closed and no run within the bounds comes to a trap that was added, or none was."""
     try:
+        if is_open := environments.restriction(entry, sources, place):
+            return is_open
         found = reachable(entry, sources, bounds, place or ".")
     except Failure as failure:
         return f"whether the translation traps isn't known: {failure}"

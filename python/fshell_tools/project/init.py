@@ -5,7 +5,7 @@ import os
 import tempfile
 from collections.abc import Iterator, Sequence
 
-from fshell_tools.core import named_inputs, program
+from fshell_tools.core import environments, named_inputs, program
 from fshell_tools.core.declarations import variables
 from fshell_tools.core.named_inputs import Signature
 from fshell_tools.core.program import Failure
@@ -42,6 +42,7 @@ class Draft:
         self.unit, self.graph = unit, unit.graph()
         self.sources = [Source(name, program.read(unit.at(name))) for name in unit.sources]
         self.state = {name for source in self.sources for name in variables(source)}
+        self.functions = environments.functions(unit.sources, unit.place)
         names = {os.path.basename(name) for name in drivers}
         self.of_drivers = {
             one.name for one in self.graph.functions if os.path.basename(self.graph.nodes[one.entry].file) in names
@@ -56,6 +57,14 @@ class Draft:
         """The module's own file in which a function is defined."""
         file = self.graph.nodes[self.graph.function(name).entry].file
         return self.unit.own.get(file, file)
+
+    def is_own(self, name: str) -> bool:
+        """Whether the user or a driver has written a function; a library's model that fshell adapt put in front isn't one."""
+        return self.functions is None or name in self.functions
+
+    def pointers(self, name: str) -> list[str]:
+        """The names of a function's parameters that are pointers in the user's own source."""
+        return (self.functions or {}).get(name, [])
 
     def arrays(self, name: str) -> list[str]:
         """The names of a function's parameters that are arrays, so that no input has them."""
@@ -95,8 +104,10 @@ def text_of(draft: Draft, module: Module, queries: Sequence[str]) -> str:
     for one in draft.graph.functions:
         if one.name in draft.of_drivers and not one.name.startswith("drive_"):
             continue
+        if not draft.is_own(one.name):
+            continue
         driver = draft.driver_of(one.name)
-        arrays = draft.arrays(one.name)
+        arrays, pointers = draft.arrays(one.name), draft.pointers(one.name)
         if driver:
             left_out.append(f"# {one.name}: {driver} calls it")
         elif arrays:
@@ -104,6 +115,9 @@ def text_of(draft: Draft, module: Module, queries: Sequence[str]) -> str:
                 f"# {one.name}: {', '.join(arrays)} is an array, which no input has; "
                 f"fshell driver {one.name} {draft.own(one.name)} -o drive_{one.name}.c writes a caller"
             )
+        elif pointers:
+            left_out.append(f"# {environments.told(one.name, pointers)}:")
+            left_out.append(f"#   fshell driver {one.name} {draft.own(one.name)} -o drive_{one.name}.c")
         else:
             lines += _entry(draft, one.name, queries)
     lines += ["", *(["# left out:"] if left_out else []), *left_out]

@@ -3,6 +3,7 @@
 import json
 import os
 import re
+import shlex
 from collections.abc import Callable, Iterator
 
 from tests.models import trap_programs
@@ -57,6 +58,23 @@ requirements = true
 [requirements]
 file = "needs.toml"
 """
+OVER = """#include <string.h>
+int over(const int *v)
+{
+  if (v == 0)
+    return -1;
+  if (v[0] > 100)
+    return 1;
+  return 0;
+}
+int twice(int x)
+{
+  char a[2] = {0}, b[2];
+  memcpy(b, a, 2);
+  return x > 5 ? 2 * x : x + b[1];
+}
+"""
+OPEN = "over is open: no input chooses the object that v points to; `fshell driver over` writes a caller that does"
 NEEDS = """[[requirement]]
 id = "R-1"
 text = "The index is never 5."
@@ -87,6 +105,22 @@ def a_campaign_tells_the_trap(folder: str) -> Iterator[bool]:
     yield "trapped" not in ended.stdout.splitlines()[-1]
     ended = run(folder, ["campaign", "-o", "dir", "--at-least", "25", "--allow-traps", "f"])
     yield ended.returncode == 0
+
+
+def an_open_entry_has_nothing_unreachable(folder: str) -> Iterator[bool]:
+    """Line 7 wants an object whose first element is above 100, and no input chooses one. init leaves such an entry out, with the
+    command that closes it, and functions of models too; those with integers alone are entries."""
+    put(folder, {"over.c": OVER})
+    yield run(folder, ["adapt", "over.c", "-o", "ad"]).returncode == 0
+    ended = run(folder, ["campaign", "over", "cover @LINE(7)", "ad/over.c", "-o", "dir", "--at-least", "100"])
+    yield ended.returncode == 1 and "\ngoal 1: refuted within the bounds, certificates/1.cert: " in ended.stdout
+    yield f"no refuted goal is called unreachable: {OPEN}\n" in ended.stdout
+    yield run(folder, ["init", "over.c"]).stdout == "fshell.toml: 1 entries for 2 functions\n"
+    with open(os.path.join(folder, "fshell.toml"), encoding="utf-8") as file:
+        text = file.read()
+    yield re.findall(r'^function = "(\w+)"', text, re.MULTILINE) == ["twice"] and f"\n# {OPEN}:\n" in text
+    (command,) = re.findall(r"^#   fshell (driver .*)$", text, re.MULTILINE)
+    yield run(folder, shlex.split(command)).returncode == 0 and os.path.isfile(os.path.join(folder, "drive_over.c"))
 
 
 def lcov_and_explain_leave_it_in(folder: str) -> Iterator[bool]:
@@ -162,6 +196,7 @@ def beside_gcov(first: int) -> Callable[[str], Iterator[bool]]:
 
 TRIED: Tried = [
     ((GRAPH, "parallel"), a_campaign_tells_the_trap),
+    ((GRAPH, "pycparser", "gcc"), an_open_entry_has_nothing_unreachable),
     ((GRAPH,), lcov_and_explain_leave_it_in),
     ((GRAPH,), what_is_behind_a_trap_is_not_unreachable),
     ((GRAPH,), blocked_runs_are_outside_of_the_assumptions),

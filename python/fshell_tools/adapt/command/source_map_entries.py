@@ -194,6 +194,17 @@ def names(writer: Writer) -> dict[str, str]:
     return {name: text for name, text in sorted(found.items()) if text and name != text}
 
 
+def is_pointer(parameter: Variable) -> bool:
+    """Whether a parameter is a pointer in the original, however it is written."""
+    return isinstance(parameter.type, Pointer) or parameter.binding is not None
+
+
+def pointed(writer: Writer, path: str) -> dict[str, list[str]]:
+    """The functions that a file of the user's defines, by the names that are written, each with its parameters that are pointers."""
+    own = [one for one in writer.names.functions if one.definition is not None and one.where.file == path]
+    return {one.out: [it.name for it in one.parameters if is_pointer(it)] for one in own}
+
+
 def text_of(writer: Writer, units: Sequence[Unit], texts: dict[str, str], folder: str) -> str:
     """The map of all files that are written."""
     cells = names(writer)
@@ -214,7 +225,7 @@ def text_of(writer: Writer, units: Sequence[Unit], texts: dict[str, str], folder
         rows.append(
             (
                 os.path.basename(path),
-                source_map.entry_of(kept, original.data, written, places(original, file), named, spots, traps),
+                source_map.entry_of(kept, original.data, written, places(original, file), named, spots, traps, pointed(writer, path)),
             )
         )
     return source_map.text_of(rows)
