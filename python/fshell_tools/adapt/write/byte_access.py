@@ -168,7 +168,7 @@ class Raw(Component):
         return self.writer.places.is_raw(place) and c_types.is_mixed(place.type)
 
     def first_bytes(self, made: Filled) -> list[str]:
-        """The bytes that an object's first values give it; those without any are 0."""
+        """The bytes that an object's first values give it; those without any are 0. Raises Refused for one of a bit-field."""
         found = ["0"] * (c_types.size(made.of_type) or 0)
         for spot, node in made.given.items():
             kind, begin = made.types[spot], made.offset(spot)
