@@ -143,7 +143,7 @@ class Lowering:
         self.scopes.pop()
 
     def object(self, name: str) -> int:
-        """The object that a name means: -1 where it is a parameter, or isn't declared in the function."""
+        """The number of the object that a name means: -1 where it is a parameter, or isn't declared in the function."""
         found = next((scope.objects[name] for scope in reversed(self.scopes) if name in scope.objects), -1)
         self.named.setdefault((self.name, name), set()).add(found)
         return found

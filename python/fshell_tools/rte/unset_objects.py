@@ -69,12 +69,12 @@ class Flow:
             self.early |= self.states(name, True)
 
     def next(self, number: int) -> int:
-        """The node behind an edge: of a call the one behind its return."""
+        """The number of the node behind an edge: of a call the one behind its return."""
         step = self.steps[number]
         return self.steps[number + 1].target if step.operation.startswith("call ") else step.target
 
     def begin(self, number: int) -> int:
-        """The node before an edge: of a return the one before its call."""
+        """The number of the node before an edge: of a return the one before its call."""
         step = self.steps[number]
         return self.steps[number - 1].source if step.operation.startswith("return ") else step.source
 

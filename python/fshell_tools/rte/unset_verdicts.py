@@ -69,13 +69,13 @@ class Unset:
         return Row(what.place, f"{WORDS[kind]} {word.text}", verdict, why, given, end, (what,), said.goals, said.folder)
 
     def kind(self, one: Read | Result) -> str:
-        """What a row is of."""
+        """The heading of a row: a result, an element of an array, or a read."""
         if isinstance(one, Result):
             return RESULT
         return ELEMENTS if one.object in self.flow.lowering.arrays else READ
 
     def of_read(self, read: Read) -> Said:
-        """What is known of a read."""
+        """The verdict on one use of an object, by the flow or by a query."""
         if read.object in self.flow.lowering.arrays:
             return Said(why=ARRAY)
         if not self.flow.can_ask(read):
@@ -93,7 +93,7 @@ class Unset:
         return self.decided(query, is_ours, len(begins) * len(read.nodes), NO_QUESTION)
 
     def of_result(self, result: Result) -> Said:
-        """What is known of a result."""
+        """The verdict on one use of a value that a function may end without."""
 
         def is_ours(letters: Letters) -> bool:
             """Whether a goal is an edge by which the function ends without a value."""
