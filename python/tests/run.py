@@ -17,7 +17,17 @@ from collections.abc import Iterable
 from tests import environment, parallel_groups
 from tests import tools as tool_tests
 from tests.documents import test_crates, test_documents
-from tests.program import test_all_inputs, test_ast_outcomes, test_certificates, test_commands, test_corpus, test_events_of_runs, test_launcher, test_remeasured_inputs, test_replays
+from tests.program import (
+    test_all_inputs,
+    test_ast_outcomes,
+    test_certificates,
+    test_commands,
+    test_corpus,
+    test_events_of_runs,
+    test_launcher,
+    test_remeasured_inputs,
+    test_replays,
+)
 from tests.tools.every import TOOLS
 
 # those with long parts first
@@ -74,7 +84,9 @@ def chosen(words: list[str]) -> list[parallel_groups.Group]:
     """The groups with these names, and the cases whose name has one of the words; all where there are no words."""
     tools = of_tools([name for name in TOOLS if not words or "tools" in words], alone=True)
     tools += of_tools([name for name in TOOLS if name in words and "tools" not in words], alone=False)
-    groups = [parallel_groups.Group(name, module.parts()) for name, module in GROUPS.items() if not words or name in words]
+    groups = [
+        parallel_groups.Group(name, module.parts()) for name, module in GROUPS.items() if not words or name in words
+    ]
     named = test_commands.parts([] if "cases" in words else words)
     return [*tools[:2], *groups, *tools[2:], *([parallel_groups.Group("cases", named)] if named else [])]
 

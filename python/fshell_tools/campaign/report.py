@@ -139,7 +139,9 @@ class Told:
     def json(self) -> str:
         """The same as a line of JSON."""
         asked = self.asked
-        named = {name: getattr(asked, name) for name in ("entry", "query", "sources", "sums", "bounds", "ends", "budget")}
+        named = {
+            name: getattr(asked, name) for name in ("entry", "query", "sources", "sums", "bounds", "ends", "budget")
+        }
         goals = list(map(self.goal_value, self.report.goals, self.verdicts))
         counts: dict[str, object] = {one: self.tally.counts[one] for one in Verdict}
         if self.conditions:

@@ -112,7 +112,9 @@ class Folder:
         if not snapshots.use(asked.sources, asked.sums, asked.place, self.at("sources")):
             snapshots.take(asked.sources, asked.place)
             if read_sums(asked.sources, asked.place) != asked.sums:
-                raise Failure(f"{self.path}: changed since it was made: {' '.join(asked.sources)}, and it has no copy of them")
+                raise Failure(
+                    f"{self.path}: changed since it was made: {' '.join(asked.sources)}, and it has no copy of them"
+                )
 
     def given(self) -> list[Input]:
         """The inputs with which the campaign began."""
@@ -132,7 +134,9 @@ class Folder:
         names = [name.removesuffix(ending) for name in os.listdir(self.at(kind)) if name.endswith(ending)]
         return sorted(int(name) for name in names if name.isdigit())
 
-    def generated(self, asked: Asked, jobs: int = 1, tell: split_generate.Tell = lambda done, total: None) -> Report | None:
+    def generated(
+        self, asked: Asked, jobs: int = 1, tell: split_generate.Tell = lambda done, total: None
+    ) -> Report | None:
         """What one `generate` over all goals answers, once it is asked; None where it is refused. Where its formulas are
         too large, `prove` says of each goal whether that one is. `tell` hears how many goals are done, where there are many.
         """

@@ -20,7 +20,9 @@ def parser(name: str, about: str | None, done: str, is_open: str = "", **more: s
     statuses = {0: done} | ({1: is_open} if is_open else {}) | {2: FAILED}
     statuses |= {int(name.removeprefix("status_")): text for name, text in more.items()}
     epilog = "exit status:\n" + "".join(f"  {number}  {text}\n" for number, text in sorted(statuses.items()))
-    made = Parser(prog=f"fshell {name}".rstrip(), description=about, epilog=epilog, formatter_class=argparse.RawTextHelpFormatter)
+    made = Parser(
+        prog=f"fshell {name}".rstrip(), description=about, epilog=epilog, formatter_class=argparse.RawTextHelpFormatter
+    )
     made.statuses = dict(sorted(statuses.items()))
     return made
 

@@ -83,7 +83,9 @@ class Reader:
         """The inputs with their answers in order; a failure where a run takes fewer than are named."""
         given = []
         for value, one in zip(values, found):
-            answered = named_inputs.answers(value, self.graph.inputs, self.signature) if named_inputs.is_named(value) else {}
+            answered = (
+                named_inputs.answers(value, self.graph.inputs, self.signature) if named_inputs.is_named(value) else {}
+            )
             given.append((one.args, answered))
         rows = named_inputs.in_order(given, self.asks)
         told = self.asks([(one.args, answers) for one, answers in zip(found, rows)]) if any(g[1] for g in given) else []

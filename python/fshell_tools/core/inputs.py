@@ -168,7 +168,9 @@ def named_text(inputs: list[Input], entry: str, sources: list[str]) -> str:
     given = []
     for one in inputs:
         own = json.loads(one.own) if one.own else {}
-        given.append(input_reader.of_value({"args": list(one.args), "answers": list(one.answers), **own}, reader.signature))
+        given.append(
+            input_reader.of_value({"args": list(one.args), "answers": list(one.answers), **own}, reader.signature)
+        )
     told = reader.with_names(given, reader.asks([one.numbers for one in given]))
     return "[" + ",\n ".join(json.dumps(one, ensure_ascii=False) for one in told) + "]\n"
 

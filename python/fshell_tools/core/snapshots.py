@@ -104,7 +104,9 @@ def is_outside(name: str) -> bool:
 
 def _inner(sources: Sequence[str]) -> str:
     """The folder within a copy from which all names lead to files of the copy: as deep as names have `..` in front."""
-    depth = max((os.path.normpath(name).split(os.sep).count("..") for name in sources if not is_outside(name)), default=0)
+    depth = max(
+        (os.path.normpath(name).split(os.sep).count("..") for name in sources if not is_outside(name)), default=0
+    )
     return os.path.join("files", *["up"] * depth)
 
 

@@ -127,7 +127,15 @@ def of_source(name: str, place: str = ".") -> Mapped | None:
         raise _wrong(path, f"{original} has changed since {name} was written")
     places = {(row[0], row[1]): (row[2], row[3]) for row in one["places"]}
     temporaries = {key: (row[0], row[1]) for key, row in one["temporaries"].items()}
-    return Mapped(original, data, places, one["names"], temporaries, _traps(one.get("traps", [])), _functions(one.get("functions")))
+    return Mapped(
+        original,
+        data,
+        places,
+        one["names"],
+        temporaries,
+        _traps(one.get("traps", [])),
+        _functions(one.get("functions")),
+    )
 
 
 # ---- writing

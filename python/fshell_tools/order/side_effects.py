@@ -2,7 +2,23 @@
 
 from dataclasses import dataclass, field
 
-from fshell_tools.order.tree import Assign, Call, Cast, Chain, Check, Element, Expression, Function, Loop, Name, Ordered, Parts, Statement, Unary, Variable
+from fshell_tools.order.tree import (
+    Assign,
+    Call,
+    Cast,
+    Chain,
+    Check,
+    Element,
+    Expression,
+    Function,
+    Loop,
+    Name,
+    Ordered,
+    Parts,
+    Statement,
+    Unary,
+    Variable,
+)
 from fshell_tools.order.value_ranges import Known, Object, Seen
 
 DEPTH = 64

@@ -2,7 +2,22 @@
 
 from dataclasses import dataclass
 
-from fshell_tools.order.tree import Assign, Cast, Chain, Element, Expression, Kind, Loop, Name, Number, Ordered, Parts, Statement, Unary, Variable
+from fshell_tools.order.tree import (
+    Assign,
+    Cast,
+    Chain,
+    Element,
+    Expression,
+    Kind,
+    Loop,
+    Name,
+    Number,
+    Ordered,
+    Parts,
+    Statement,
+    Unary,
+    Variable,
+)
 
 Bounds = tuple[int, int]
 # a variable of the file, a parameter by its number, or a local by its name and the number of its first token

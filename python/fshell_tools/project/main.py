@@ -117,9 +117,7 @@ def told_left(context: Context) -> bool:
     for task in left:
         print(f"not done yet: {task.entry.function}, {task.name}")
     if left:
-        print(
-            f"{len(left)} tasks aren't done as the sources and {context.settings.path} stand; fshell run does them"
-        )
+        print(f"{len(left)} tasks aren't done as the sources and {context.settings.path} stand; fshell run does them")
     return bool(left)
 
 

@@ -21,7 +21,9 @@ from collections.abc import Iterator
 
 ROOT = os.path.abspath(os.path.join(os.path.dirname(__file__), "..", "..", ".."))
 HOME = os.path.join(ROOT, "docs", "THEOREM.md")
-TABLE = re.compile(r"(?<=<!-- made by python/fshell_tools/repository/trusted_base\.py -->\n\n).*?(?=\n<!-- to here -->)", re.DOTALL)
+TABLE = re.compile(
+    r"(?<=<!-- made by python/fshell_tools/repository/trusted_base\.py -->\n\n).*?(?=\n<!-- to here -->)", re.DOTALL
+)
 NAME = re.compile(r"[^\s(){}\[\],;.:]+")
 # what is no use of a name: a field that is read, declared or given, and a variable that is bound
 BOUND = re.compile(r"(?<=\w)\.\w+|\bpub \w+(?= :)|[({](?:\w+ )+(?=:)|λ (?:\w+ )*\w+\.|\b\w+ =(?= )")

@@ -43,7 +43,9 @@ def limits_of(limits: Limits, asked: Asked) -> tuple[Limits, list[Warned]]:
     wide = [one for one in told if not is_local(one)]
     if wide:
         return dataclasses.replace(limits, restriction=cause(wide[0], asked.place)), []
-    left = "" if limits.restriction == restriction else limits.restriction  # (of an open entry, or of a trap that adapt adds)
+    left = (
+        "" if limits.restriction == restriction else limits.restriction
+    )  # (of an open entry, or of a trap that adapt adds)
     return dataclasses.replace(limits, restriction=left), told
 
 

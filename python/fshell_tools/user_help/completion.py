@@ -77,7 +77,11 @@ def words_of_all(page: str) -> tuple[Words, Words]:
     values: Words = {"help help": "words" + " ".join(commands.ALL)}
     for command, takes in program_commands(page).items():
         options[command] = " ".join(name for name, _ in takes)
-        values |= {f"{command} {name}": "words" + (" ".join(ENDS) if name == "--ends" else "") for name, value in takes if value}
+        values |= {
+            f"{command} {name}": "words" + (" ".join(ENDS) if name == "--ends" else "")
+            for name, value in takes
+            if value
+        }
     for name in commands.TOOLS:
         options[name], more = rows_of(name, cli.of_tool(name))
         values |= more

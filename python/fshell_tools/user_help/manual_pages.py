@@ -156,7 +156,9 @@ def parts_of(name: str, about: str) -> dict[str, str]:
 def tool_pages(tools: str) -> dict[str, str]:
     """The pages of the tools, by their names."""
     found = {}
-    headings = {name: text for heading, text in sections(tools).items() for name in heading.removeprefix("fshell ").split(", ")}
+    headings = {
+        name: text for heading, text in sections(tools).items() for name in heading.removeprefix("fshell ").split(", ")
+    }
     for name in cli.TOOLS:
         text = headings[name].strip("\n")
         head, _, rest = text.partition("\n\n")

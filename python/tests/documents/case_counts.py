@@ -14,13 +14,25 @@ from collections.abc import Iterator
 from tests import environment
 from tests import tools as tool_tests
 from tests.documents import test_documents
-from tests.program import test_all_inputs, test_ast_outcomes, test_certificates, test_commands, test_corpus, test_events_of_runs, test_launcher, test_remeasured_inputs, test_replays
+from tests.program import (
+    test_all_inputs,
+    test_ast_outcomes,
+    test_certificates,
+    test_commands,
+    test_corpus,
+    test_events_of_runs,
+    test_launcher,
+    test_remeasured_inputs,
+    test_replays,
+)
 from tests.program.command_cases import every
 from tests.text_files import put, text_of
 from tests.tools.every import TOOLS
 
 HOME = os.path.join(environment.HERE, "README.md")
-TABLE = re.compile(r"(?<=<!-- made by python/tests/documents/case_counts\.py -->\n\n).*?(?=\n<!-- to here -->)", re.DOTALL)
+TABLE = re.compile(
+    r"(?<=<!-- made by python/tests/documents/case_counts\.py -->\n\n).*?(?=\n<!-- to here -->)", re.DOTALL
+)
 
 
 def rows() -> Iterator[tuple[str, str]]:

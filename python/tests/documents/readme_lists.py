@@ -12,7 +12,13 @@ from tests import environment
 from tests.text_files import text_of
 
 FEWER_WORDS = 900
-TRIED_BY = {"package": "install", "init": "project", "run": "project", "report": "project", "gate": "project"}  # the tools whose cases stand in another one's module
+TRIED_BY = {
+    "package": "install",
+    "init": "project",
+    "run": "project",
+    "report": "project",
+    "gate": "project",
+}  # the tools whose cases stand in another one's module
 
 
 def commands(text: str) -> list[str]:
@@ -61,4 +67,6 @@ def wrong() -> list[str]:
         for page in ("README.md", *pages)
         for fault in of_kit(text_of(os.path.join(environment.ROOT, page)), kit)
     ]
-    return [f"README.md: {fault}" for fault in found] + [f"fshell {fault}" for fault in without_cases(of_tools)] + of_kits
+    return (
+        [f"README.md: {fault}" for fault in found] + [f"fshell {fault}" for fault in without_cases(of_tools)] + of_kits
+    )

@@ -91,7 +91,8 @@ def all_of(name: str, folder: str) -> list[str]:
     for at in range(0, len(inputs), test_all_inputs.CHUNK):
         with open(os.path.join(folder, "all.json"), "w", encoding="ascii") as file:
             json.dump(
-                [{"args": words, "answers": answers} for words, answers in inputs[at : at + test_all_inputs.CHUNK]], file
+                [{"args": words, "answers": answers} for words, answers in inputs[at : at + test_all_inputs.CHUNK]],
+                file,
             )
         found += differences(*(one(400, "f", "all.json", ["p.c"], folder) for one in (by_edges, by_trees)))
     return found[:3]

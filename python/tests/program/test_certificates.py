@@ -140,7 +140,9 @@ def is_drat(folder: str, text: str) -> bool:
     path = os.path.join(folder, "drat.cert")
     with open(path, "w", encoding="ascii") as file:
         file.write(text)
-    subprocess.run([os.path.join(environment.ROOT, "bin", "fshell"), "drat", path, os.path.join(folder, "written")], check=True)
+    subprocess.run(
+        [os.path.join(environment.ROOT, "bin", "fshell"), "drat", path, os.path.join(folder, "written")], check=True
+    )
     with open(os.path.join(folder, "written.cnf"), encoding="ascii") as file:
         dimacs = file.read()
     with open(os.path.join(folder, "written.drat"), encoding="ascii") as file:
@@ -174,9 +176,9 @@ class Written:
 
     def proved(self) -> tuple[int, str]:
         """The status and the text of the command that writes the certificate."""
-        return environment.ended([self.program, self.case.prove, *self.case.bounds, *self.case.asked, "s.c"], self.folder)[
-            :2
-        ]
+        return environment.ended(
+            [self.program, self.case.prove, *self.case.bounds, *self.case.asked, "s.c"], self.folder
+        )[:2]
 
     def checked(self, text: str) -> tuple[int, str, str]:
         """What the command that reads a certificate says of this one."""

@@ -109,7 +109,9 @@ def differences(case: Case) -> list[str]:
 def is_there(need: str) -> bool:
     """Whether something is there that cases need: the program's command graph, a Python package, one of Debian's, or a command."""
     if need == "graph":
-        return "Usage" not in subprocess.run([environment.LAUNCHER, "graph", "/no"], capture_output=True, text=True).stderr
+        return (
+            "Usage" not in subprocess.run([environment.LAUNCHER, "graph", "/no"], capture_output=True, text=True).stderr
+        )
     if need.startswith(DEBIANS):
         own = shutil.which("python3", path="/usr/bin")
         words = [own or "", "-c", f"import {need.removeprefix(DEBIANS)}"]

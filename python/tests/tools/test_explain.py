@@ -270,9 +270,9 @@ def pairs_are_counted_as_the_program_does(folder: str) -> Iterator[bool]:
     for turns, pairs in ((126, 3 * 127 * 127 + 10 * 127 + 8), (127, 3 * 128 * 128 + 10 * 128 + 8)):
         told = run(folder, ["explain", "80", "w.c", "--entry", "f", "--turns", str(turns)]).stdout
         yield f"walks from f reach {pairs} pairs within" in told
-        refused = run(
-            folder, ["bounds", "f", "w.c", "--turns", str(turns), "--budget", "1"]
-        ).stderr.startswith("error 80 ")
+        refused = run(folder, ["bounds", "f", "w.c", "--turns", str(turns), "--budget", "1"]).stderr.startswith(
+            "error 80 "
+        )
         yield refused == (pairs > 50_000)
 
 

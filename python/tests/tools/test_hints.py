@@ -81,7 +81,9 @@ def a_refusal_has_a_line_more(folder: str) -> Iterator[bool]:
         yield (stdout, status, len(lines), lines[0]) == ("", ended.returncode, 2, line)
         yield lines[1].startswith("fshell: " + begin) and all(part in lines[1] for part in parts)
     # a source outside of the profile is led on, with commands that can be pasted
-    (adapting, starting) = re.findall(r"`fshell (\w+ .*?)`", run(folder, ["goals", "cover ID", "float.c"], env=WITH_HINTS).stderr)[-2:]
+    (adapting, starting) = re.findall(
+        r"`fshell (\w+ .*?)`", run(folder, ["goals", "cover ID", "float.c"], env=WITH_HINTS).stderr
+    )[-2:]
     yield run(folder, shlex.split(adapting)).returncode in (0, 3) and starting == "init float.c"
     # what isn't refused has none
     yield on_a_terminal(folder, ["goals", "cover @LINE(5)", "sum.c"]) == ("goals 1\ngoal 1 e1@sum.c:5\n", "", 0)

@@ -88,10 +88,7 @@ CASES = [
 def least_inputs_are_measured(folder: str) -> Iterator[bool]:
     """The least inputs of two goals become one file, which covers them; and its traces are replayed."""
     put(folder, {"both.c": example("counting/both.c")})
-    lines = [
-        run(folder, ["least", "both", "cover EDGES(@STMTTYPE(RETURN))", goal, "both.c"]).stdout
-        for goal in "12"
-    ]
+    lines = [run(folder, ["least", "both", "cover EDGES(@STMTTYPE(RETURN))", goal, "both.c"]).stdout for goal in "12"]
     put(folder, {"least": "".join(lines)})
     yield run(folder, ["inputs", "least", "-o", "in"]).returncode == 0
     measured = run(folder, ["measure", "both", "cover EDGES(@STMTTYPE(RETURN))", "in", "both.c"]).stdout
@@ -152,7 +149,9 @@ def what_is_no_file_is_written_into(folder: str) -> Iterator[bool]:
     pipe = os.path.join(folder, "pipe")
     os.mkfifo(pipe)
     with subprocess.Popen(
-        [os.path.join(environment.ROOT, "bin", "fshell"), "inputs", "a", "-o", "pipe"], cwd=folder, stderr=subprocess.DEVNULL
+        [os.path.join(environment.ROOT, "bin", "fshell"), "inputs", "a", "-o", "pipe"],
+        cwd=folder,
+        stderr=subprocess.DEVNULL,
     ) as tool:
         with open(pipe, encoding="ascii") as file:
             yield file.read() == "1\n"

@@ -53,7 +53,9 @@ def may_differ(known: set[int], line: int, text: str, heads: set[int], one: int 
     return line in known or test_lcov_gcov.may_differ("", line, text, heads, one, other)
 
 
-def compared(name: str, text: str, known: set[int], heads: set[int], counts: Counts, others: Counts) -> tuple[int, list[str]]:
+def compared(
+    name: str, text: str, known: set[int], heads: set[int], counts: Counts, others: Counts
+) -> tuple[int, list[str]]:
     """How many lines of a source have one count in both, and those that differ without a reason; each has its branches too."""
     (lines, branches), (their_lines, their_branches) = counts, others
     rows, same, found = text.split("\n"), 0, []

@@ -145,7 +145,9 @@ def of_lists(folder: str) -> Iterator[bool]:
     yield len(readme_lists.faults(page + "word " * 894, *given)) == 1
     yield readme_lists.without_cases(of_tools + "## fshell nothing\n") == ["nothing has no cases"]
     named = "Kit: `rattle-kit-1 logic a1` (`rt version`).\n"
-    yield readme_lists.of_kit(named, "rattle-kit-1 logic a1") == [] and len(readme_lists.of_kit(named, "rattle-kit-2 logic a1")) == 1
+    yield readme_lists.of_kit(named, "rattle-kit-1 logic a1") == [] and len(
+        readme_lists.of_kit(named, "rattle-kit-2 logic a1")
+    ) == 1
 
 
 TRIED = [((), case) for case in (of_decisions, of_the_gate, of_releases, of_headings, of_what_is_proved, of_lists)]

@@ -135,9 +135,7 @@ def a_generate_over_many_goals_is_split_and_joined(folder: str) -> Iterator[bool
     """52 functions, so 416 goals: the verdicts and the order are those of one generate, with any number of jobs; each input that
     is named hits its goal, as measure says."""
     put(folder, {"many.c": many(52)})
-    whole = json.loads(
-        run(folder, ["generate", "all", QUERY, "many.c", "--budget", "50000", "--json"]).stdout
-    )
+    whole = json.loads(run(folder, ["generate", "all", QUERY, "many.c", "--budget", "50000", "--json"]).stdout)
     yield len(whole["goals"]) == 416
     for name, jobs in (("one", "1"), ("two", "3")):
         yield run(folder, ["campaign", "all", QUERY, "many.c", "-o", name, "--jobs", jobs, "--left"]).stdout.count(

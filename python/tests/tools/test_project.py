@@ -75,7 +75,9 @@ def counted(folder: str) -> dict[str, str]:
     """An environment in which each start of the program is noted in the file `starts`."""
     path = os.path.join(folder, "counting")
     with open(path, "w", encoding="ascii") as file:
-        file.write(f'#!/bin/sh\nprintf "%s %s\\n" "$1" "$2" >> "{folder}/starts"\nexec "{environment.program()}" "$@"\n')
+        file.write(
+            f'#!/bin/sh\nprintf "%s %s\\n" "$1" "$2" >> "{folder}/starts"\nexec "{environment.program()}" "$@"\n'
+        )
     os.chmod(path, 0o755)
     return {**os.environ, "FSHELL": path}
 
@@ -165,7 +167,9 @@ def the_gate_fails(folder: str) -> Iterator[bool]:
         "the gate fails: a run of f ends at a.c:2:3, trapped assert",
         "the gate fails: a run of f ends at a.c:3:3, trapped zero-divisor",
     ]
-    yield "a.c:2:3: error: a run of f ends here, trapped assert: assert(x != 7), by the input args 7 [run-time-error]\n" in report(folder, "warnings.txt")
+    yield "a.c:2:3: error: a run of f ends here, trapped assert: assert(x != 7), by the input args 7 [run-time-error]\n" in report(
+        folder, "warnings.txt"
+    )
     # C leaves open whether g is read before the call (6.5p2, 6.5.2.2p10), so that the guard isn't called unreachable
     put(
         folder,

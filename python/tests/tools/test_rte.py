@@ -694,7 +694,8 @@ def what_isnt_looked_at(folder: str) -> Iterator[bool]:
     put(folder, {"a.c": "int g(int x) { return x; }\n" + DEAD})
     missing = MISSING.removeprefix("not looked at: ").split("; ")
     others = "functions that f doesn't call (g)"
-    for words, due in (([], [*missing, others]), (["--ends", "any", "--frames", "64"], [missing[0], others])):
+    ways = [(list[str](), [*missing, others]), (["--ends", "any", "--frames", "64"], [missing[0], others])]
+    for words, due in ways:
         ended = run(folder, ["rte", "f", "a.c", "-o", f"d{len(words)}", *words])
         yield f"not looked at: {'; '.join(due)}\n" in ended.stdout
         yield report(folder, f"d{len(words)}")["not_looked_at"] == due

@@ -54,7 +54,15 @@ def began(folder: str, text: str) -> None:
     """Puts the first version of a folder, with the files that the tools read, and nothing else."""
     shutil.rmtree(folder, ignore_errors=True)
     os.makedirs(os.path.join(folder, "runs"))
-    files = {"in": "9\n0\n", "zero": "0\n", "logins": "2/:\n", "fshell.toml": TOML, "a.c": text, "first": text, "back": f"{NEVER}\n"}
+    files = {
+        "in": "9\n0\n",
+        "zero": "0\n",
+        "logins": "2/:\n",
+        "fshell.toml": TOML,
+        "a.c": text,
+        "first": text,
+        "back": f"{NEVER}\n",
+    }
     program = f"'{environment.program()}'"
     put(folder, {**files, "script": SCRIPT % (f"'{folder}'", program), "next": SECOND if text == FIRST else FIRST})
     os.chmod(os.path.join(folder, "script"), 0o755)
@@ -133,7 +141,9 @@ def copies_have_their_sums(folder: str) -> Iterator[bool]:
         yield ended.returncode == 0
         with open(os.path.join(at, "out", "report.json"), encoding="utf-8") as file:
             yield hashlib.sha256(FIRST.encode()).hexdigest() in file.read()
-        copies = [os.path.join(top, one) for top, _, names in os.walk(os.path.join(at, "out", "sources")) for one in names]
+        copies = [
+            os.path.join(top, one) for top, _, names in os.walk(os.path.join(at, "out", "sources")) for one in names
+        ]
         yield len(copies) == 1 and open(copies[0], encoding="utf-8").read() == FIRST
         # a page of the folder is of that copy, whatever the source has become
         put(folder, {"a.c": SECOND})

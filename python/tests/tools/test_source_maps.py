@@ -320,7 +320,9 @@ def traps_that_are_added_are_listed(folder: str) -> Iterator[bool]:
     put(folder, {"a.c": TRAPS, "plain.c": "int f(int x) { return x; }\n"})
     yield run(folder, ["adapt", "a.c", "-o", "new"]).returncode == 0
     found = translation_traps.listed(["new/a.c"], folder)
-    yield [(one.file, one.line, one.is_fault) for one in found] == [("new/a.c", 2, True)] and "6.5.6p8" in found[0].clause
+    yield [(one.file, one.line, one.is_fault) for one in found] == [("new/a.c", 2, True)] and "6.5.6p8" in found[
+        0
+    ].clause
     yield translation_traps.listed(["plain.c"], folder) == []
     yield translation_traps.reachable("f", ["new/a.c"], [], folder) == []
     yield translation_traps.reachable("g", ["new/a.c"], [], folder) == found

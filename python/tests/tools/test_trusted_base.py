@@ -84,7 +84,11 @@ def what_definitions_rest_on(folder: str) -> Iterator[bool]:
     put(folder, SMALL)
     shutil.copy(os.path.join(environment.ROOT, TOOL), os.path.join(folder, TOOL))
     ended = subprocess.run(
-        [sys.executable, "-c", ASK, *DUE], cwd=os.path.join(folder, "python"), capture_output=True, text=True, timeout=SECONDS
+        [sys.executable, "-c", ASK, *DUE],
+        cwd=os.path.join(folder, "python"),
+        capture_output=True,
+        text=True,
+        timeout=SECONDS,
     )
     got = ended.stdout.splitlines()
     yield ended.returncode == 0 and len(got) == len(DUE)
@@ -96,7 +100,11 @@ def a_field_of_a_record_is_no_use_of_its_name(folder: str) -> Iterator[bool]:
     put(folder, SMALL)
     shutil.copy(os.path.join(environment.ROOT, TOOL), os.path.join(folder, TOOL))
     ended = subprocess.run(
-        [sys.executable, "-c", ASK, "of_field"], cwd=os.path.join(folder, "python"), capture_output=True, text=True, timeout=SECONDS
+        [sys.executable, "-c", ASK, "of_field"],
+        cwd=os.path.join(folder, "python"),
+        capture_output=True,
+        text=True,
+        timeout=SECONDS,
     )
     yield ended.stdout == "['Holder 2', 'of_field 2']\n"
 

@@ -29,7 +29,9 @@ def asked(folder: str, *words: str) -> tuple[int, str, str]:
         os.makedirs(os.path.join(folder, "bin"), exist_ok=True)
         shutil.copy(os.path.join(environment.ROOT, "bin", name), os.path.join(folder, "bin", name))
     python = os.path.join(folder, "python")
-    shutil.copytree(os.path.join(environment.TOOLS, "fshell_tools"), os.path.join(python, "fshell_tools"), dirs_exist_ok=True)
+    shutil.copytree(
+        os.path.join(environment.TOOLS, "fshell_tools"), os.path.join(python, "fshell_tools"), dirs_exist_ok=True
+    )
     shutil.copy(os.path.join(environment.TOOLS, "__main__.py"), python)
     ended = subprocess.run([os.path.join(folder, "bin", "where"), *words], cwd=folder, stdin=subprocess.DEVNULL,
                            capture_output=True, text=True, timeout=SECONDS)  # fmt: skip
@@ -113,7 +115,9 @@ def this_repository(folder: str) -> Iterator[bool]:
         ("--turns", "docs/COMMANDS.md", "crates/command_words/"),
     ):
         words = [os.path.join(environment.ROOT, "bin", "where"), word, "--all"]
-        ended = subprocess.run(words, cwd=folder, stdin=subprocess.DEVNULL, capture_output=True, text=True, timeout=SECONDS)
+        ended = subprocess.run(
+            words, cwd=folder, stdin=subprocess.DEVNULL, capture_output=True, text=True, timeout=SECONDS
+        )
         yield ended.returncode == 0 and document in ended.stdout
         yield crate in ended.stdout
 

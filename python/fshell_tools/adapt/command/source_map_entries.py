@@ -225,7 +225,9 @@ def text_of(writer: Writer, units: Sequence[Unit], texts: dict[str, str], folder
         rows.append(
             (
                 os.path.basename(path),
-                source_map.entry_of(kept, original.data, written, places(original, file), named, spots, traps, pointed(writer, path)),
+                source_map.entry_of(
+                    kept, original.data, written, places(original, file), named, spots, traps, pointed(writer, path)
+                ),
             )
         )
     return source_map.text_of(rows)

@@ -6,7 +6,6 @@ Where it has too many edges for one picture it is the graph of the calls, and fu
 import html
 import re
 import shutil
-import subprocess
 from collections.abc import Iterator
 
 from fshell_tools.core import processes

@@ -1,6 +1,21 @@
 """The cases of `bounds`. An input that is printed is the only one whose run leaves the bounds."""
 
-from tests.program.command_cases import CALLEE, CALLER, COUNT, NESTED, QUOTIENTS, RECURSION, A, Case, Words, case, of_sources, of_streams, refused, usages
+from tests.program.command_cases import (
+    CALLEE,
+    CALLER,
+    COUNT,
+    NESTED,
+    QUOTIENTS,
+    RECURSION,
+    A,
+    Case,
+    Words,
+    case,
+    of_sources,
+    of_streams,
+    refused,
+    usages,
+)
 
 
 def said(name: str, options: Words, source: str, text: str, entry: str = "f", status: int = 0) -> Case:

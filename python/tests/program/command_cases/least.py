@@ -2,7 +2,27 @@
 
 from collections.abc import Sequence
 
-from tests.program.command_cases import BOTH, CALLS, COUNT, ELEMENT, NESTED, NEVER, QUOTIENTS, RECURSION, SEVEN, WAIT, A, Case, Words, case, of_queries, of_sources, of_streams, refused, usages
+from tests.program.command_cases import (
+    BOTH,
+    CALLS,
+    COUNT,
+    ELEMENT,
+    NESTED,
+    NEVER,
+    QUOTIENTS,
+    RECURSION,
+    SEVEN,
+    WAIT,
+    A,
+    Case,
+    Words,
+    case,
+    of_queries,
+    of_sources,
+    of_streams,
+    refused,
+    usages,
+)
 
 HIT = "cover @LINE(3)"
 

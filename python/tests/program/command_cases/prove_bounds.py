@@ -1,6 +1,18 @@
 """The cases of `prove-bounds`, but for the certificates that it writes, which test_certificates.py checks."""
 
-from tests.program.command_cases import COUNT, NESTED, QUOTIENTS, A, Case, Words, case, of_sources, of_streams, refused, usages
+from tests.program.command_cases import (
+    COUNT,
+    NESTED,
+    QUOTIENTS,
+    A,
+    Case,
+    Words,
+    case,
+    of_sources,
+    of_streams,
+    refused,
+    usages,
+)
 from tests.program.command_cases.bounds import FEW, KINDS, answers
 
 

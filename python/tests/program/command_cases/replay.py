@@ -3,7 +3,26 @@
 from collections.abc import Sequence
 from typing import Any
 
-from tests.program.command_cases import ALL, BOTH, CALLEE, CALLER, ELEMENT, FOREVER, REPORT, TITLE, WAIT, A, Case, Words, case, of_queries, of_sources, of_streams, refused, usages
+from tests.program.command_cases import (
+    ALL,
+    BOTH,
+    CALLEE,
+    CALLER,
+    ELEMENT,
+    FOREVER,
+    REPORT,
+    TITLE,
+    WAIT,
+    A,
+    Case,
+    Words,
+    case,
+    of_queries,
+    of_sources,
+    of_streams,
+    refused,
+    usages,
+)
 
 TWO = TITLE + "args 5 edges 1 3\nargs 11 edges 0 2\n"
 FILES = {"t.txt": TWO, "a.c": A}

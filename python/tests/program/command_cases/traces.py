@@ -2,7 +2,23 @@
 
 from typing import Any
 
-from tests.program.command_cases import BOTH, CALLEE, CALLER, ELEMENT, FOREVER, TITLE, WAIT, A, Case, Words, case, of_sources, of_streams, refused, usages
+from tests.program.command_cases import (
+    BOTH,
+    CALLEE,
+    CALLER,
+    ELEMENT,
+    FOREVER,
+    TITLE,
+    WAIT,
+    A,
+    Case,
+    Words,
+    case,
+    of_sources,
+    of_streams,
+    refused,
+    usages,
+)
 
 
 def said(name: str, source: str, inputs: Any, lines: str, options: Words = ()) -> Case:

@@ -3,7 +3,24 @@
 from collections.abc import Sequence
 from typing import Any
 
-from tests.program.command_cases import BOTH, CALLEE, CALLER, COUNT, ELEMENT, FOREVER, NESTED, RECURSION, A, Case, Words, case, of_sources, of_streams, refused, usages
+from tests.program.command_cases import (
+    BOTH,
+    CALLEE,
+    CALLER,
+    COUNT,
+    ELEMENT,
+    FOREVER,
+    NESTED,
+    RECURSION,
+    A,
+    Case,
+    Words,
+    case,
+    of_sources,
+    of_streams,
+    refused,
+    usages,
+)
 
 
 def said(

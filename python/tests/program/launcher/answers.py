@@ -92,4 +92,10 @@ def answers_of_the_launcher_on_a_full_device(tree: Tree) -> Iterator[bool]:
             yield ended.returncode == due
 
 
-CASES = [help_needs_no_program, words_are_dispatched, the_program_is_named, refusals_are_explained, answers_of_the_launcher_on_a_full_device]
+CASES = [
+    help_needs_no_program,
+    words_are_dispatched,
+    the_program_is_named,
+    refusals_are_explained,
+    answers_of_the_launcher_on_a_full_device,
+]

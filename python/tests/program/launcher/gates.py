@@ -93,7 +93,9 @@ def gate_runs_all(tree: Tree) -> Iterator[bool]:
         ended = tree.call(tree.path("bin/test"), "--proofs")
         return ended.returncode, ended.stdout.split("\n")[-3:-1], tree.calls()
 
-    tree.write("python/tests/run.py", ACCEPTED.replace("sys.exit", "os.path.exists('../differs') and sys.exit(1)\nsys.exit"))
+    tree.write(
+        "python/tests/run.py", ACCEPTED.replace("sys.exit", "os.path.exists('../differs') and sys.exit(1)\nsys.exit")
+    )
     all_crates = ["ci: crates/fshell crates/low crates/other"]
     status, lines, calls = gate()
     yield status == 1 and lines[0] == "one accepted" and "bin/release" in lines[1] and calls == all_crates
