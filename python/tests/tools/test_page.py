@@ -28,7 +28,7 @@ suite 1
 covered 1 of 4
 """
 WORDS = ["page", "made", "-o", "page.html", "--source", "never.c"]
-CHECK = "fshell check f 'cover @CONDITIONEDGE' 3 3.cert never.c --turns 4 --frames 8 --answers 16"
+CHECK = "fshell check f 'cover @CONDITIONEDGE' 3 3.cert never.c --turns 4 --frames 8 --answers 16 --ends any"
 
 
 def refused(name: str, words: list[str], files: dict[str, str], line: str) -> Case:
@@ -357,8 +357,8 @@ def a_campaign_is_shown_as_it_says(folder: str) -> Iterator[bool]:
     with open(os.path.join(folder, "page.html"), encoding="utf-8") as file:
         data = json.loads(captured(DATA, file.read()))
     (command,) = data["goals"][2]["c"]
-    yield command == CHECK.replace("3.cert", "new/certificates/3.cert")
-    yield run(folder, shlex.split(command)).stdout == "goal 3 refuted turns 4 frames 8 answers 16\n"
+    yield command == CHECK.replace("3.cert", "new/any/certificates/3.cert")
+    yield run(folder, shlex.split(command)[1:]).stdout == "goal 3 refuted turns 4 frames 8 answers 16 ends any\n"
 
 
 def the_list_says_what_goals_ask_for(folder: str) -> Iterator[bool]:
